@@ -1,0 +1,6 @@
+pub mod Block
+pub mod BlockText
+pub mod Fault
+pub mod Name
+pub mod Sink
+pub mod Source

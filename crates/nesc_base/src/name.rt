@@ -1,0 +1,64 @@
+ghost use Rattle.std.specs.Prelude.{◌≡◌, ◌≤◌, IsTrue, List, ℕ, take};
+ghost use Rattle.std.specs.List.{list_all};
+ghost use Rattle.nesc_base.specs.Name.{is_name, is_name_byte, name_of};
+
+use std::marker::Model;
+
+/// How many bytes a name has at most.
+pub const LONGEST_NAME: usize = 24;
+
+/// A file's name: 1 to 24 bytes, each of them one of a-z, 0-9, `_`, `-` and `.`.
+#[derive(Debug, Drop)]
+pub struct Name {
+    bytes: [u8; LONGEST_NAME],
+    len: usize,
+}
+
+impl Model for Name {
+    ghost Value = { List ℕ };
+
+    ghost view = { λ name. take name.len name.bytes };
+
+    ghost invariant = { λ name. (name.len ≤ 24) × IsTrue (is_name (take name.len name.bytes)) };
+}
+
+fn is_name_byte(b: u8) -> bool
+    ensures { result ≡ is_name_byte b }
+{
+    matches!(b, b'a'..=b'z' | b'0'..=b'9' | b'_' | b'-' | b'.')
+}
+
+fn are_name_bytes(bytes: &[u8]) -> bool
+    ensures { result ≡ list_all is_name_byte bytes.now }
+{
+    bytes.iter().all(|b| is_name_byte(*b))
+}
+
+fn is_name(bytes: &[u8]) -> bool
+    ensures { result ≡ is_name bytes.now }
+{
+    1 <= bytes.len() && bytes.len() <= LONGEST_NAME && are_name_bytes(bytes)
+}
+
+impl Name {
+    /// The name that these bytes are, or `None` where they are none.
+    pub fn read(bytes: &[u8]) -> Option<Name>
+        ensures { result ≡ name_of bytes.now }
+    {
+        if !is_name(bytes) {
+            return None;
+        }
+        let len = bytes.len();
+        let mut padded = [0; LONGEST_NAME];
+        padded[..len].copy_from_slice(bytes);
+        Some(Name { bytes: padded, len })
+    }
+
+    /// The bytes of the name.
+    pub fn bytes(&self) -> &[u8]
+        ensures bytes { result.now ≡ self.now }
+        ensures name { IsTrue (is_name self.now) }
+    {
+        &self.bytes[..self.len]
+    }
+}
