@@ -1,0 +1,4 @@
+pub mod BlockLemmas
+pub mod KnownLemmas
+pub mod NumberLemmas
+pub mod WritesLemmas

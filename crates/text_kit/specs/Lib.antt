@@ -1,0 +1,4 @@
+pub mod Buffered
+pub mod Known
+pub mod Number
+pub mod Writes
