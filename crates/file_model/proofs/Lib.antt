@@ -1,0 +1,14 @@
+pub mod Answering
+pub mod Changing
+pub mod Deciding
+pub mod Entries
+pub mod FileSets
+pub mod Finding
+pub mod Held
+pub mod Holding
+pub mod Maps
+pub mod NeverStuck
+pub mod OneAnswer
+pub mod Running
+pub mod Texts
+pub mod Writing

@@ -1,0 +1,5 @@
+use Rattle.file_model.proofs.NeverStuck.{every_answered}
+use Rattle.file_model.proofs.laws.every_command_is_answered.Goals as goal
+
+pub returns : goal.returns
+returns c = every_answered

@@ -1,0 +1,10 @@
+pub mod Codes
+pub mod Files
+pub mod Functions
+pub mod HostCommands
+pub mod Laws
+pub mod Lines
+pub mod Machine
+pub mod PlainFile
+pub mod PlainFiles
+pub mod PlainMachine

@@ -1,0 +1,26 @@
+ghost use Rattle.std.specs.FinMap.{empty};
+ghost use Rattle.nesc_base.specs.declared.host.HostCommand.{HostCommand};
+ghost use Rattle.file_model.specs.Files.{Change, IsFileSet};
+ghost use Rattle.file_model.specs.Laws.{HasOneAnswer, IsAnswered, IsNeverStuck, KeepsFileSets};
+ghost use Rattle.file_model.specs.Machine.{State};
+
+/// No files are files as they may be, and each change leaves them so.
+pub fn file_sets_stay()
+    ensures none { IsFileSet empty }
+    ensures changes { (change : Change) → KeepsFileSets change }
+{}
+
+/// The definition leaves no choice: the host is answered what the files say, and they become what the command says.
+pub fn one_answer()
+    ensures { (command : HostCommand) → HasOneAnswer command }
+{}
+
+/// Whatever the host asks of whatever files, the definition has an answer and a result for it.
+pub fn every_command_is_answered()
+    ensures { (command : HostCommand) → IsAnswered command }
+{}
+
+/// The plain machine is never stuck: from every state, every schedule has a run.
+pub fn every_run_goes_on()
+    ensures { (old : State) → IsNeverStuck old }
+{}
