@@ -1,0 +1,11 @@
+use Rattle.nesc_monitor.proofs.Ranges.{refused_put}
+use Rattle.nesc_monitor.proofs.Puts.{PutsBlocks-Writes}
+use Rattle.nesc_monitor.proofs.files.Files.put.Goals as goal
+
+pub returns-in-Ok-clause-step : goal.returns-in-Ok-clause-step
+returns-in-Ok-clause-step c =
+    let inside = rw c.len.ensures.count at c.in-Ok.ensures.found in
+    PutsBlocks-Writes inside.named inside.within c.write_all.ensures.blocks
+
+pub returns-in-Err-clause-step : goal.returns-in-Err-clause-step
+returns-in-Err-clause-step c = refused_put c.args.self.now.files c.args.name.now c.args.v c.args.blocks.now c.in-Err.refusal (rw (← c.len.ensures.count) c.in-Err.ensures.refused)

@@ -1,0 +1,133 @@
+-- What a command of the program comes to, and what it says of it.
+use Rattle.std.specs.Prelude.{◌≡◌, ℕ, ◌<◌, ◌≤◌, ◌⊎◌, ◌++◌, Bool, true, false, List, [], ◌∷◌, length, take, codes, Option, Some, None}
+use Rattle.std.specs.Str.{bytes_eq}
+use Rattle.nesc_base.specs.Fault.{Rose}
+use Rattle.nesc_base.specs.Sink.{Appends}
+use Rattle.nesc_base.specs.declared.host.HostCommand.{HostCommand}
+use Rattle.nesc_base.specs.declared.word.Word.{Word}
+use Rattle.file_model.specs.Lines.{trace_text}
+use Rattle.file_model.specs.Machine.{State, Run, start}
+use Rattle.file_model.specs.declared.line.Line.{Line}
+use Rattle.nesc_monitor.specs.CommandsText.{IsCommandsText}
+use Rattle.nesc_monitor.specs.Limits.{most_bytes}
+use Rattle.nesc_monitor.specs.ScheduleText.{schedule_of}
+use Rattle.nesc_monitor.specs.declared.ending.Ending.{Ending}
+use Rattle.nesc_monitor.specs.declared.ending.Ending.TheVariants as ending
+use Rattle.nesc_monitor.specs.declared.ending.Status.{Status}
+use Rattle.nesc_monitor.specs.declared.ending.Status.TheVariants.{Done, Words, Memory, Input, Read, Write}
+
+-- the exit status
+abbrev pub code_of : Status → ℕ
+code_of Done = 0
+code_of Words = 2
+code_of Memory = 3
+code_of Input = 4
+code_of Read = 7
+code_of Write = 8
+
+abbrev pub status_of : Ending → Status
+status_of ending.Done = Done
+status_of ending.Words = Words
+status_of ending.Memory = Memory
+status_of ending.Commands = Input
+status_of ending.Schedule = Input
+status_of ending.Read = Read
+status_of ending.Write = Write
+
+-- what stands on standard error
+abbrev pub error_line : Ending → List ℕ
+error_line ending.Done = []
+error_line ending.Words = codes "nesc: words\n"
+error_line ending.Memory = codes "nesc: memory\n"
+error_line ending.Commands = codes "nesc: input commands\n"
+error_line ending.Schedule = codes "nesc: input schedule\n"
+error_line ending.Read = codes "nesc: read\n"
+error_line ending.Write = codes "nesc: write\n"
+
+-- the words of the command line are `run` and nothing else
+abbrev pub is_run : List (List ℕ) → Bool
+is_run (word ∷ []) = bytes_eq word (codes "run")
+is_run words = false
+
+-- A source or a sink over a call: the bytes that it had left, or had taken, and has now, where it tells them, and how
+-- often it had failed and has failed now.
+pub record Watched : Type 0 where
+  pub before : Option (List ℕ)
+  pub after : Option (List ℕ)
+  pub faults_before : ℕ
+  pub faults_after : ℕ
+
+-- it failed in the call
+abbrev pub HasFailed : Watched → Type 0
+HasFailed watched = Rose watched.faults_before watched.faults_after
+
+-- where a source told what it had left, nothing is left
+abbrev pub IsReadOut : Option (List ℕ) → Option (List ℕ) → Type 0
+IsReadOut None after = Unit {0}
+IsReadOut (Some bytes) after = after ≡ Some []
+
+-- The output is the trace of a run of the plain machine, from no files, over the commands of the one text and the
+-- words of the other.
+pub record IsTrace (commands schedule output : List ℕ) : Type 0 where
+  pub script : List HostCommand
+  pub words : List Word
+  pub read_commands : IsCommandsText commands script
+  pub read_schedule : schedule_of schedule ≡ Some words
+  pub groups : List (List Line)
+  pub end : State
+  pub run : Run (start script) words groups end
+  pub text : output ≡ trace_text groups
+
+-- where the sources and the sink tell their bytes: such an output stands behind what the sink had
+abbrev pub WritesTrace : Option (List ℕ) → Option (List ℕ) → Option (List ℕ) → Option (List ℕ) → Type 0
+WritesTrace (Some commands) (Some schedule) (Some before) after = (output : List ℕ) × IsTrace commands schedule output × (after ≡ Some (before ++ output))
+WritesTrace commands schedule before after = Unit {0}
+
+-- so do the first bytes of such an output
+abbrev pub WritesFront : Option (List ℕ) → Option (List ℕ) → Option (List ℕ) → Option (List ℕ) → Type 0
+WritesFront (Some commands) (Some schedule) (Some before) after =
+    (output : List ℕ) × IsTrace commands schedule output × (n : ℕ) × (n ≤ length output) × (after ≡ Some (before ++ take n output))
+WritesFront commands schedule before after = Unit {0}
+
+-- Where the sources tell their texts: the commands file is refused. One that is too long is so while it is read, and
+-- another only once the schedule is read too.
+abbrev pub IsCommandsRefused : Option (List ℕ) → Option (List ℕ) → Type 0
+IsCommandsRefused (Some commands) (Some schedule) =
+    ((script : List HostCommand) → ¬ IsCommandsText commands script) × ((most_bytes < length commands) ⊎ (length schedule ≤ most_bytes))
+IsCommandsRefused commands schedule = Unit {0}
+
+-- Where the sources tell their texts: the schedule is refused. One that is too long is so while it is read, and
+-- another only once the commands are accepted.
+abbrev pub IsScheduleRefused : Option (List ℕ) → Option (List ℕ) → Type 0
+IsScheduleRefused (Some commands) (Some schedule) =
+    (schedule_of schedule ≡ None) × (length commands ≤ most_bytes) × ((most_bytes < length schedule) ⊎ ((script : List HostCommand) × IsCommandsText commands script))
+IsScheduleRefused commands schedule = Unit {0}
+
+-- why no step was taken, where the texts were looked at: the sources, and why
+abbrev pub IsTurnedAway : Ending → Watched → Watched → Type 0
+IsTurnedAway ending.Memory commands schedule = Unit {0}
+IsTurnedAway ending.Commands commands schedule = IsCommandsRefused commands.before schedule.before
+IsTurnedAway ending.Schedule commands schedule = IsScheduleRefused commands.before schedule.before
+IsTurnedAway ending.Read commands schedule = HasFailed commands ⊎ HasFailed schedule
+IsTurnedAway other commands schedule = ⊥
+
+-- What an ending says of the words, of the two sources and of the sink.
+abbrev pub Comes : Ending → List (List ℕ) → Watched → Watched → Watched → Type 0
+Comes ending.Done words commands schedule out =
+    (is_run words ≡ true) × WritesTrace commands.before schedule.before out.before out.after × IsReadOut commands.before commands.after × IsReadOut schedule.before schedule.after
+Comes ending.Words words commands schedule out = (is_run words ≡ false) × (out.after ≡ out.before)
+Comes ending.Write words commands schedule out =
+    (is_run words ≡ true) × HasFailed out × WritesFront commands.before schedule.before out.before out.after
+Comes other words commands schedule out = (is_run words ≡ true) × IsTurnedAway other commands schedule × (out.after ≡ out.before)
+
+-- what the steps can come to
+abbrev pub IsOfSteps : Ending → Type 0
+IsOfSteps ending.Done = Unit {0}
+IsOfSteps ending.Memory = Unit {0}
+IsOfSteps ending.Write = Unit {0}
+IsOfSteps other = ⊥
+
+-- what a sink had and has taken, and how often it had failed and has failed: it has the line of the ending behind what
+-- it had, where it tells that and did not fail
+abbrev pub IsToldOn : Option (List ℕ) → Option (List ℕ) → ℕ → ℕ → Ending → Type 0
+IsToldOn before after faults_before faults_after ending = ¬ Rose faults_before faults_after → Appends before after (error_line ending)

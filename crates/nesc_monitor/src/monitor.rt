@@ -1,0 +1,142 @@
+ghost use Rattle.std.specs.Prelude.{◌≡◌, ◌≤◌, ◌↔◌, [], map, false, string_bytes, IsErr, OnOk};
+ghost use Rattle.nesc_base.specs.Fault.{HasCause};
+ghost use Rattle.text_kit.specs.Buffered.{lent_name, pending_of, sink_of};
+ghost use Rattle.file_model.specs.Machine.{start};
+ghost use Rattle.nesc_monitor.specs.CommandsText.{blocks_in_all};
+ghost use Rattle.nesc_monitor.specs.Endings.{Comes, IsOfSteps, IsToldOn, WritesTrace, is_run, status_of};
+ghost use Rattle.nesc_monitor.specs.Limits.{most_blocks};
+ghost use Rattle.nesc_monitor.specs.Session.{HasRoom, state_of};
+ghost use Rattle.nesc_monitor.specs.Steps.{TellsAll, TellsFront};
+ghost use Rattle.nesc_monitor.specs.declared.ending.Ending.{Ending};
+
+use crate::ending::{Ending, Status};
+use crate::schedule::Schedule;
+use crate::session::Session;
+use crate::steps::take_steps;
+use crate::texts::{Script, read_script};
+use nesc_base::{Sink, Source, WriteFault};
+use std::alloc::Global;
+use text_kit::{Buffer, Buffered, write_text};
+
+/// Writes the trace of all steps, and hands on what is still gathered of it.
+fn write_trace<K: Sink>(
+    session: &mut Session,
+    schedule: &mut Schedule,
+    buffered: &mut Buffered<'_, K>,
+) -> Result<(), WriteFault>
+    requires room { HasRoom session.old }
+    requires empty { pending_of buffered.old ≡ [] }
+    ensures all { OnOk result (TellsAll (state_of session.old) schedule.old (K.taken (sink_of buffered.old)) (K.taken (sink_of buffered.new))) }
+    ensures front { TellsFront (state_of session.old) schedule.old (K.taken (sink_of buffered.old)) (K.taken (sink_of buffered.new)) }
+    ensures lent { lent_name buffered.new ≡ lent_name buffered.old }
+    ensures cause { HasCause (K.faults (sink_of buffered.old)) (K.faults (sink_of buffered.new)) (IsErr result) }
+{
+    match take_steps(session, schedule, buffered) {
+        Ok(()) => buffered.flush(),
+        Err(fault) => Err(fault),
+    }
+}
+
+/// Writes the trace of all steps to a sink, in large pieces.
+fn write_out<K: Sink>(
+    session: &mut Session,
+    schedule: &mut Schedule,
+    buffer: &mut Buffer,
+    out: &mut K,
+) -> Result<(), WriteFault>
+    requires { HasRoom session.old }
+    ensures all { OnOk result (TellsAll (state_of session.old) schedule.old (K.taken out.old) (K.taken out.new)) }
+    ensures front { TellsFront (state_of session.old) schedule.old (K.taken out.old) (K.taken out.new) }
+    ensures cause { HasCause (K.faults out.old) (K.faults out.new) (IsErr result) }
+{
+    let mut buffered = Buffered::new(buffer, out);
+    write_trace(session, schedule, &mut buffered)
+}
+
+/// Takes the steps of a script from no files on, and writes their trace.
+fn write_run<K: Sink>(alloc: Global, script: Script, out: &mut K) -> Ending
+    requires { blocks_in_all script.commands ≤ most_blocks }
+    ensures all { result ≡ Ending.Done → TellsAll (start script.commands) script.schedule (K.taken out.old) (K.taken out.new) }
+    ensures front { result ≡ Ending.Write → TellsFront (start script.commands) script.schedule (K.taken out.old) (K.taken out.new) }
+    ensures memory { result ≡ Ending.Memory → K.taken out.new ≡ K.taken out.old }
+    ensures others { IsOfSteps result }
+    ensures cause { HasCause (K.faults out.old) (K.faults out.new) (result ≡ Ending.Write) }
+{
+    let Script {
+        commands,
+        mut schedule,
+    } = script;
+    let Ok(mut buffer) = Buffer::new(alloc) else {
+        return Ending::Memory;
+    };
+    let Ok(mut session) = Session::new(alloc, commands) else {
+        return Ending::Memory;
+    };
+    match write_out(&mut session, &mut schedule, &mut buffer, out) {
+        Ok(()) => Ending::Done,
+        Err(_) => Ending::Write,
+    }
+}
+
+/// Whether the words of the command line are `run` and nothing else.
+fn is_run(words: &[String]) -> bool
+    ensures { result ≡ is_run (map string_bytes words.now) }
+{
+    match words {
+        [word] => word.as_str() == "run",
+        _ => false,
+    }
+}
+
+/// Carries out the command `run`, but for what is told on standard error.
+fn carry_out<S: Source, K: Sink>(
+    alloc: Global,
+    words: &[String],
+    commands: &mut S,
+    schedule: &mut S,
+    out: &mut K,
+) -> Ending
+    ensures comes { Comes result (map string_bytes words.now)
+        (record { before = S.left commands.old; after = S.left commands.new; faults_before = S.faults commands.old; faults_after = S.faults commands.new })
+        (record { before = S.left schedule.old; after = S.left schedule.new; faults_before = S.faults schedule.old; faults_after = S.faults schedule.new })
+        (record { before = K.taken out.old; after = K.taken out.new; faults_before = K.faults out.old; faults_after = K.faults out.new }) }
+    ensures never_fall { (S.faults commands.old ≤ S.faults commands.new) × (S.faults schedule.old ≤ S.faults schedule.new) × (K.faults out.old ≤ K.faults out.new) }
+{
+    if !is_run(words) {
+        return Ending::Words;
+    }
+    match read_script(alloc, commands, schedule) {
+        Ok(script) => write_run(alloc, script, out),
+        Err(ending) => ending,
+    }
+}
+
+/// Carries out the command that the words of the command line name, which is `run`: reads the commands file and the
+/// schedule, takes the steps of the schedule over files kept in memory, and writes the trace to `out`.
+///
+/// `err` gets one line where the command did not come to its end, and no failure of `err` changes the status. Nothing
+/// goes to `out` before both texts are accepted.
+pub fn run<S: Source, K: Sink, E: Sink>(
+    alloc: Global,
+    words: &[String],
+    commands: &mut S,
+    schedule: &mut S,
+    out: &mut K,
+    err: &mut E,
+) -> Status
+    // The whole trace is that of a run of the plain machine over both texts.
+    ensures done { result ≡ Status.Done → WritesTrace (S.left commands.old) (S.left schedule.old) (K.taken out.old) (K.taken out.new) }
+    ensures words { (result ≡ Status.Words) ↔ (is_run (map string_bytes words.now) ≡ false) }
+
+    // Each status has its cause, and its line on `err`.
+    ensures ending { (ending : Ending) × (result ≡ status_of ending) × IsToldOn (E.taken err.old) (E.taken err.new) (E.faults err.old) (E.faults err.new) ending
+        × Comes ending (map string_bytes words.now)
+        (record { before = S.left commands.old; after = S.left commands.new; faults_before = S.faults commands.old; faults_after = S.faults commands.new })
+        (record { before = S.left schedule.old; after = S.left schedule.new; faults_before = S.faults schedule.old; faults_after = S.faults schedule.new })
+        (record { before = K.taken out.old; after = K.taken out.new; faults_before = K.faults out.old; faults_after = K.faults out.new }) }
+    ensures never_fall { (S.faults commands.old ≤ S.faults commands.new) × (S.faults schedule.old ≤ S.faults schedule.new) × (K.faults out.old ≤ K.faults out.new) }
+{
+    let ending = carry_out(alloc, words, commands, schedule, out);
+    let _told = write_text(err, ending.error_line());
+    ending.status()
+}

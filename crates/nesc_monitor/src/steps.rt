@@ -1,0 +1,33 @@
+ghost use Rattle.nesc_monitor.specs.Steps.{TakesSteps, TellsStep};
+ghost use Rattle.nesc_monitor.specs.Session.{HasRoom, state_of};
+
+use crate::schedule::Schedule;
+use crate::session::Session;
+use crate::trace::{write_done, write_line};
+use nesc_base::{Sink, Word, WriteFault};
+
+/// Takes one step, and then writes its line.
+fn take_step<K: Sink>(session: &mut Session, word: Word, sink: &mut K) -> Result<(), WriteFault>
+    requires { HasRoom session.old }
+    ensures told { TellsStep K.taken K.faults K.lent (state_of session.old) word (state_of session.new) sink.old sink.new result }
+    ensures room { HasRoom session.new }
+{
+    let line = session.step(word);
+    write_line(sink, &line)
+}
+
+/// Takes the steps of a schedule, and writes the lines of each behind it and `done N` at the end.
+pub fn take_steps<K: Sink>(
+    session: &mut Session,
+    schedule: &mut Schedule,
+    sink: &mut K,
+) -> Result<(), WriteFault>
+    requires { HasRoom session.old }
+    ensures { TakesSteps K.taken K.faults K.lent (state_of session.old) schedule.old sink.old sink.new result }
+{
+    let steps = schedule.steps() as u64;
+    while let Some(word) = schedule.word() {
+        take_step(session, word, sink)?;
+    }
+    write_done(sink, steps)
+}

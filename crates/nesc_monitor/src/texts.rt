@@ -1,0 +1,94 @@
+ghost use Rattle.std.specs.Prelude.{◌≡◌, ◌≤◌, Some, length, IfErr, IfOk, OnOk};
+ghost use Rattle.nesc_monitor.specs.CommandsText.{IsCommandsText, blocks_in_all};
+ghost use Rattle.nesc_monitor.specs.Endings.{IsReadOut, IsTurnedAway};
+ghost use Rattle.nesc_monitor.specs.Limits.{most_blocks};
+ghost use Rattle.nesc_monitor.specs.Reading.{GivesAll};
+ghost use Rattle.nesc_monitor.specs.ScheduleText.{schedule_of};
+ghost use Rattle.nesc_monitor.specs.Texts.{IsRefusal, IsTold};
+
+use crate::ending::Ending;
+use crate::fault::InputFault;
+use crate::reading::{ReadStop, read_text};
+use crate::schedule::{Schedule, read_schedule};
+use crate::script::{Commands, read_commands};
+use nesc_base::Source;
+use std::alloc::Global;
+
+/// The two texts, as they were read.
+#[derive(Drop)]
+struct Texts {
+    commands: Vec<u8>,
+    schedule: Vec<u8>,
+}
+
+/// What the two texts say.
+#[derive(Drop)]
+pub struct Script {
+    pub commands: Commands,
+    pub schedule: Schedule,
+}
+
+/// Reads the commands file and then the schedule, each to its end.
+fn read_texts<S: Source>(alloc: Global, commands: &mut S, schedule: &mut S) -> Result<Texts, Ending>
+    ensures commands { IfOk result (λ texts. GivesAll texts.commands.items (S.left commands.old) (S.left commands.new)) }
+    ensures schedule { IfOk result (λ texts. GivesAll texts.schedule.items (S.left schedule.old) (S.left schedule.new)) }
+    ensures within { IfOk result (λ texts. (length texts.commands.items ≤ 16777216) × (length texts.schedule.items ≤ 16777216)) }
+    ensures turned_away { IfErr result (λ ending. IsTurnedAway ending
+        (record { before = S.left commands.old; after = S.left commands.new; faults_before = S.faults commands.old; faults_after = S.faults commands.new })
+        (record { before = S.left schedule.old; after = S.left schedule.new; faults_before = S.faults schedule.old; faults_after = S.faults schedule.new })) }
+    ensures never_fall { (S.faults commands.old ≤ S.faults commands.new) × (S.faults schedule.old ≤ S.faults schedule.new) }
+{
+    let commands = match read_text(alloc, commands) {
+        Ok(text) => text,
+        Err(ReadStop::NoMemory) => return Err(Ending::Memory),
+        Err(ReadStop::Fault) => return Err(Ending::Read),
+        Err(ReadStop::TooLong) => return Err(Ending::Commands),
+    };
+    let schedule = match read_text(alloc, schedule) {
+        Ok(text) => text,
+        Err(ReadStop::NoMemory) => return Err(Ending::Memory),
+        Err(ReadStop::Fault) => return Err(Ending::Read),
+        Err(ReadStop::TooLong) => return Err(Ending::Schedule),
+    };
+    Ok(Texts { commands, schedule })
+}
+
+/// What the texts say. The commands are judged first.
+fn judge(alloc: Global, texts: &Texts) -> Result<Script, Ending>
+    ensures commands { IfOk result (λ script. IsCommandsText texts.now.commands.items script.commands) }
+    ensures schedule { IfOk result (λ script. schedule_of texts.now.schedule.items ≡ Some script.schedule) }
+    ensures few { IfOk result (λ script. blocks_in_all script.commands ≤ most_blocks) }
+    ensures refusal { IfErr result (λ ending. IsRefusal ending texts.now.commands.items texts.now.schedule.items) }
+{
+    let commands = match read_commands(alloc, &texts.commands) {
+        Ok(commands) => commands,
+        Err(InputFault::NoMemory) => return Err(Ending::Memory),
+        Err(InputFault::Refused) => return Err(Ending::Commands),
+    };
+    let schedule = match read_schedule(alloc, &texts.schedule) {
+        Ok(schedule) => schedule,
+        Err(InputFault::NoMemory) => return Err(Ending::Memory),
+        Err(InputFault::Refused) => return Err(Ending::Schedule),
+    };
+    Ok(Script { commands, schedule })
+}
+
+/// Reads the two texts and judges them.
+pub fn read_script<S: Source>(
+    alloc: Global,
+    commands: &mut S,
+    schedule: &mut S,
+) -> Result<Script, Ending>
+    ensures told { IfOk result (λ script. IsTold (S.left commands.old) (S.left schedule.old) script.commands script.schedule) }
+    ensures read_out { OnOk result (IsReadOut (S.left commands.old) (S.left commands.new) × IsReadOut (S.left schedule.old) (S.left schedule.new)) }
+    ensures few { IfOk result (λ script. blocks_in_all script.commands ≤ most_blocks) }
+    ensures turned_away { IfErr result (λ ending. IsTurnedAway ending
+        (record { before = S.left commands.old; after = S.left commands.new; faults_before = S.faults commands.old; faults_after = S.faults commands.new })
+        (record { before = S.left schedule.old; after = S.left schedule.new; faults_before = S.faults schedule.old; faults_after = S.faults schedule.new })) }
+    ensures never_fall { (S.faults commands.old ≤ S.faults commands.new) × (S.faults schedule.old ≤ S.faults schedule.new) }
+{
+    match read_texts(alloc, commands, schedule) {
+        Ok(texts) => judge(alloc, &texts),
+        Err(ending) => Err(ending),
+    }
+}
