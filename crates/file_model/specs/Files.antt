@@ -20,6 +20,10 @@ pub record File : Type 0 where
 abbrev pub Files : Type 0
 Files = FinMap nat_cmp File
 
+-- the file of a number, or where there is none one of no blocks
+abbrev pub file_at : Files → ℕ → File
+file_at files n = unwrap_or (get files n) (record { name = []; length = 0; body = empty })
+
 -- how many files there may be
 abbrev pub most_files : ℕ
 most_files = 32

@@ -1,5 +1,73 @@
--- What a function, the device of one guest, is at a moment.
+-- What a function, the device of one guest, is at a moment, and which function is served next.
+use Rattle.std.specs.Prelude.{ℕ, ◌+◌, ◌-◌, not, ◌&&◌, ◌==◌, Bool, true, false, List, [], ◌∷◌, ◌++◌, length, Option, Some, None, is_none}
+use Rattle.std.specs.List.{find, list_any, range_with_len}
+use Rattle.std.specs.Option.{option_and_then, option_map_or}
+use Rattle.nesc_base.specs.Script.{numbered}
+use Rattle.nesc_base.specs.declared.request.Miss.{Miss}
+use Rattle.nesc_base.specs.declared.request.Queued.{Queued}
 
--- it has no file
-pub data FunctionState : Type 0 where
-  off : FunctionState
+-- a function that has a file: the file's number, the requests that wait, how many blocks of the first of them are
+-- done, and what the function is waiting for, if it is
+pub record Attached : Type 0 where
+  pub file : ℕ
+  pub queue : List Queued
+  pub done : ℕ
+  pub waiting : Option Miss
+
+-- a function: what it has, if it is not off, and the number that its next request gets
+pub record Function : Type 0 where
+  pub attached : Option Attached
+  pub next : ℕ
+
+-- a function at first
+abbrev pub off : Function
+off = record { attached = None; next = 1 }
+
+-- a function that was given a file
+abbrev pub fresh : ℕ → Attached
+fresh file = record { file = file; queue = []; done = 0; waiting = None }
+
+-- Functions, numbered from 1
+
+-- what the function of a number has
+abbrev pub attached_of : List Function → ℕ → Option Attached
+attached_of functions f = option_and_then (λ function. function.attached) (numbered functions f)
+
+-- what the function of a number is waiting for
+abbrev pub waiting_of : List Function → ℕ → Option Miss
+waiting_of functions f = option_and_then (λ attached. attached.waiting) (attached_of functions f)
+
+-- there is a function of this number, and it has no file
+abbrev pub is_off : List Function → ℕ → Bool
+is_off functions f = option_map_or (λ function. is_none function.attached) (numbered functions f) false
+
+-- the function has this file
+abbrev pub has_file : ℕ → Option Attached → Bool
+has_file n None = false
+has_file n (Some attached) = attached.file == n
+
+-- one of the functions has this file
+abbrev pub is_taken : List Function → ℕ → Bool
+is_taken functions n = list_any (λ function. has_file n function.attached) functions
+
+-- Turns
+
+abbrev pub is_empty : {A : Type 0} → List A → Bool
+is_empty [] = true
+is_empty (x ∷ xs) = false
+
+-- it has a request, and is not waiting
+abbrev pub is_ready : Option Attached → Bool
+is_ready None = false
+is_ready (Some attached) = not (is_empty attached.queue) && is_none attached.waiting
+
+abbrev pub is_runnable : List Function → ℕ → Bool
+is_runnable functions f = is_ready (attached_of functions f)
+
+-- the numbers of so many functions, from the one after the last on and around to the last
+abbrev pub in_turn : ℕ → ℕ → List ℕ
+in_turn last count = range_with_len (last + 1) (count - last) ++ range_with_len 1 last
+
+-- the first that is runnable
+abbrev pub next_runnable : List Function → ℕ → Option ℕ
+next_runnable functions last = find (is_runnable functions) (in_turn last (length functions))

@@ -5,22 +5,33 @@ use Rattle.nesc_base.specs.declared.host.HostAnswer.{HostAnswer}
 use Rattle.nesc_base.specs.declared.word.Word.{Word}
 use Rattle.file_model.specs.Files.{Files, IsFileSet, Change, Changes}
 use Rattle.file_model.specs.HostCommands.{HostStep}
-use Rattle.file_model.specs.Machine.{State, Run}
+use Rattle.file_model.specs.Machine.{Run, Step}
+use Rattle.file_model.specs.State.{State}
 use Rattle.file_model.specs.declared.line.Line.{Line}
 
 -- a change leaves files as they may be
 abbrev pub KeepsFileSets : Change → Type 0
 KeepsFileSets change = (old new : Files) → IsFileSet old → Changes old change new → IsFileSet new
 
--- whatever files there are, the command has one answer, and leaves one result
+-- from files as they may be, a word leaves files as they may be
+abbrev pub KeepsSets : Word → Type 0
+KeepsSets word = (old : State) (lines : List Line) (new : State) → IsFileSet old.now → Step old word lines new → IsFileSet new.now
+
+-- in whatever state, the command has one answer, and leaves one result
 abbrev pub HasOneAnswer : HostCommand → Type 0
 HasOneAnswer command =
-    (old : Files) (one other : HostAnswer) (first second : Files) → IsFileSet old
+    (old : State) (one other : HostAnswer) (first second : State) → IsFileSet old.now
     → HostStep old command one first → HostStep old command other second → (one ≡ other) × (first ≡ second)
 
--- whatever files there are, the command has an answer, and leaves a result
+-- in whatever state, a word has one group of lines, and leaves one state: the definition leaves no choice
+abbrev pub HasOneStep : Word → Type 0
+HasOneStep word =
+    (old : State) (one other : List Line) (first second : State) → IsFileSet old.now
+    → Step old word one first → Step old word other second → (one ≡ other) × (first ≡ second)
+
+-- in whatever state, the command has an answer, and leaves a result
 abbrev pub IsAnswered : HostCommand → Type 0
-IsAnswered command = (old : Files) → (answer : HostAnswer) × (new : Files) × HostStep old command answer new
+IsAnswered command = (old : State) → (answer : HostAnswer) × (new : State) × HostStep old command answer new
 
 -- whatever words come, the machine runs through them from this state
 abbrev pub IsNeverStuck : State → Type 0

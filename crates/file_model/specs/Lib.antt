@@ -1,10 +1,14 @@
 pub mod Codes
 pub mod Files
 pub mod Functions
+pub mod Handlings
 pub mod HostCommands
 pub mod Laws
 pub mod Lines
 pub mod Machine
+pub mod Misses
 pub mod PlainFile
 pub mod PlainFiles
-pub mod PlainMachine
+pub mod State
+pub mod Submissions
+pub mod Ticks

@@ -1,26 +1,19 @@
 ghost use Rattle.std.specs.Prelude.{◌≡◌, IfOk, OnErr};
-ghost use Rattle.file_model.specs.HostCommands.{HostStep};
+ghost use Rattle.file_model.specs.HostCommands.{FileStep};
 
 use crate::PlainFiles;
 use nesc_base::{Blocks, HostAnswer, HostCommand, Name, NoMemory};
 use std::alloc::Global;
 
 impl PlainFiles {
-    /// Answers one command of the host, and does what it says. An `Err` says that there was no memory, and changes
-    /// nothing.
-    pub fn answer(&mut self, alloc: Global, command: HostCommand) -> Result<HostAnswer, NoMemory>
-        ensures ok { IfOk result (λ answer. HostStep self.old command answer self.new) }
-        ensures err { OnErr result (self.new ≡ self.old) }
-    {
-        match command {
-            HostCommand::Create { name, length } => self.answer_create(alloc, name, length),
-            HostCommand::Put { name, v, blocks } => self.answer_put(&name, v, &blocks),
-            HostCommand::Get { name, v, into } => Ok(self.answer_get(&name, v, into)),
-        }
-    }
-
-    fn answer_create(&mut self, alloc: Global, name: Name, len: u32) -> Result<HostAnswer, NoMemory>
-        ensures ok { IfOk result (λ answer. HostStep self.old (HostCommand.Create name len) answer self.new) }
+    /// Makes a file, if it can. An `Err` says that there was no memory, and changes nothing.
+    pub fn answer_create(
+        &mut self,
+        alloc: Global,
+        name: Name,
+        len: u32,
+    ) -> Result<HostAnswer, NoMemory>
+        ensures ok { IfOk result (λ answer. FileStep self.old (HostCommand.Create name len) answer self.new) }
         ensures err { OnErr result (self.new ≡ self.old) }
     {
         if self.find(&name).is_some() {
@@ -33,8 +26,14 @@ impl PlainFiles {
         Ok(HostAnswer::Ok)
     }
 
-    fn answer_put(&mut self, name: &Name, v: u32, blocks: &Blocks) -> Result<HostAnswer, NoMemory>
-        ensures ok { IfOk result (λ answer. HostStep self.old (HostCommand.Put name.now v blocks.now) answer self.new) }
+    /// Writes blocks of a file, if it can. An `Err` says that there was no memory, and changes nothing.
+    pub fn answer_put(
+        &mut self,
+        name: &Name,
+        v: u32,
+        blocks: &Blocks,
+    ) -> Result<HostAnswer, NoMemory>
+        ensures ok { IfOk result (λ answer. FileStep self.old (HostCommand.Put name.now v blocks.now) answer self.new) }
         ensures err { OnErr result (self.new ≡ self.old) }
     {
         let Some((number, file)) = self.find(name) else {
@@ -48,8 +47,9 @@ impl PlainFiles {
         Ok(HostAnswer::Ok)
     }
 
-    fn answer_get(&self, name: &Name, v: u32, into: Blocks) -> HostAnswer
-        ensures { HostStep self.now (HostCommand.Get name.now v into) result self.now }
+    /// Reads blocks of a file into the buffer, if it can.
+    pub fn answer_get(&self, name: &Name, v: u32, into: Blocks) -> HostAnswer
+        ensures { FileStep self.now (HostCommand.Get name.now v into) result self.now }
     {
         let Some((_, file)) = self.find(name) else {
             return HostAnswer::NoFile;

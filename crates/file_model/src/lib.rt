@@ -4,17 +4,16 @@
 mod host;
 mod laws;
 mod line;
-mod machine;
 mod plain_file;
 mod plain_files;
-mod text;
 
-pub use laws::{every_command_is_answered, every_run_goes_on, file_sets_stay, one_answer};
-pub use line::Line;
-pub use machine::{PlainMachine, run};
+pub use laws::{
+    every_command_is_answered, every_run_goes_on, file_sets_stay, file_sets_stay_in_steps,
+    one_answer, one_step,
+};
+pub use line::{Handled, How, Line, Submission};
 pub use plain_file::PlainFile;
 pub use plain_files::{MOST_FILES, PlainFiles};
-pub use text::trace;
 
 #[cfg(test)]
 mod tests;

@@ -76,7 +76,7 @@ fn answers_and_refusals(rt: HostRuntime) -> Result<(), Fail> {
         ),
         (
             &["run"],
-            "guest = []",
+            "guests = []",
             "x",
             Status::Input,
             "",
@@ -110,6 +110,69 @@ fn answers_and_refusals(rt: HostRuntime) -> Result<(), Fail> {
         assert_eq!(rt;
             told.err.bytes(),
             err.as_bytes(),
+            "at {commands:?} {schedule:?}"
+        );
+    }
+    Ok(())
+}
+
+#[test]
+fn one_guest_is_served(rt: HostRuntime) -> Result<(), Fail> {
+    let waits = r#"host = ["create a 1", "attach 1 a"]
+        guest = [["w 0 1111111111111111"]]"#;
+    let asks_too_much = r#"host = ["create a 1", "attach 1 a"]
+        guest = [["r 0 1", "r 0 1", "r 0 1", "r 0 1", "r 0 1"]]"#;
+    let ends_past = r#"host = ["create a 4", "attach 1 a"]
+        guest = [["w 2 1111111111111111 2222222222222222 3333333333333333 4444444444444444"]]"#;
+    let one_is_held = r#"host = ["create a 4", "put a 1 aaaaaaaaaaaaaaaa", "attach 1 a"]
+        guest = [["w 0 1111111111111111 2222222222222222", "r 0 2"]]"#;
+    let reads_past = r#"host = ["create a 2", "attach 1 a"]
+        guest = [["r 1 3"]]"#;
+    let host_puts = r#"host = ["create a 4", "attach 1 a", "put a 3 aaaaaaaaaaaaaaaa", "get a 3 1"]
+        guest = [["w 3 1111111111111111"]]"#;
+    let attaches = r#"host = ["attach 1 a", "create a 1", "attach 1 a", "attach 1 a"]"#;
+    for (commands, schedule, out) in [
+        (
+            waits,
+            "t h h t i1 g1 t t h i1 i1 t",
+            "t idle\nh ok\nh ok\nt idle\ni 1 none\ng 1 1\nt 1 0 miss unmapped 0\nt idle\nh end\ni 1 hold 1\ni 1 none\nt 1 0 walk 0\nr 1 1 ok 1\ndone 12\n",
+        ),
+        (
+            asks_too_much,
+            "g1 h h g1 g1 g1 g1 g1 t g1 g1",
+            "g 1 off\nh ok\nh ok\ng 1 1\ng 1 2\ng 1 3\ng 1 4\ng 1 full\nt 1 0 hole 0\nr 1 1 ok 1 z\ng 1 5\ng 1 end\ndone 11\n",
+        ),
+        (
+            ends_past,
+            "h h g1 t i1 t*3",
+            "h ok\nh ok\ng 1 1\nt 1 2 miss unmapped 0\ni 1 hold 2\nt 1 2 walk 0\nt 1 3 walk 0\nt 1 4 range\nr 1 1 range 2\ndone 8\n",
+        ),
+        (
+            one_is_held,
+            "h h h g1 g1 t i1 t*4",
+            "h ok\nh ok\nh ok\ng 1 1\ng 1 2\nt 1 0 miss unmapped 0\ni 1 hold 1\nt 1 0 walk 0\nt 1 1 walk 0\nr 1 1 ok 2\nt 1 0 walk 0\nt 1 1 walk 0\nr 1 2 ok 2 1111111111111111 2222222222222222\ndone 11\n",
+        ),
+        (
+            reads_past,
+            "h h g1 t t",
+            "h ok\nh ok\ng 1 1\nt 1 1 hole 0\nt 1 2 range\nr 1 1 range 1\ndone 5\n",
+        ),
+        (
+            host_puts,
+            "h h g1 t h i1 t h",
+            "h ok\nh ok\ng 1 1\nt 1 3 miss unmapped 0\nh ok\ni 1 hold 0\nt 1 3 walk 0\nr 1 1 ok 1\nh data 1111111111111111\ndone 8\n",
+        ),
+        (
+            attaches,
+            "h h h h",
+            "h nofile\nh ok\nh ok\nh functiontaken\ndone 4\n",
+        ),
+    ] {
+        let told = tell(rt.alloc(), &["run"], commands, schedule)?;
+        assert_eq!(rt; told.status, Status::Done, "at {commands:?} {schedule:?}");
+        assert_eq!(rt;
+            told.out.bytes(),
+            out.as_bytes(),
             "at {commands:?} {schedule:?}"
         );
     }

@@ -1,4 +1,4 @@
-use crate::{Blocks, Name};
+use crate::{Blocks, FnNo, Name};
 
 /// What the host asks for.
 #[derive(Debug, Drop)]
@@ -9,6 +9,8 @@ pub enum HostCommand {
     Put { name: Name, v: u32, blocks: Blocks },
     /// Reads blocks of a file from block `v` on, 0 to 1,048,575, into the buffer that it brings.
     Get { name: Name, v: u32, into: Blocks },
+    /// Gives a function the file as its disk.
+    Attach { f: FnNo, name: Name },
 }
 
 /// What the host is answered.
@@ -26,4 +28,8 @@ pub enum HostAnswer {
     Range,
     /// The blocks that were asked for.
     Got(Blocks),
+    /// The function has a file already, or there is no such function.
+    FunctionTaken,
+    /// Another function has the file.
+    FileTaken,
 }

@@ -1,10 +1,11 @@
 -- What an ending says, put together from what the parts say.
 use Rattle.std.proofs.Common.{◌≡◌, ◌↔◌, true, false, List, ℕ, Option, Some, None, sym, ◌∙◌, refl}
 use Rattle.std.proofs.lemmas.Bool.{false≢true}
-use Rattle.nesc_base.specs.declared.host.HostCommand.{HostCommand}
+use Rattle.nesc_base.specs.Script.{Script}
 use Rattle.nesc_base.specs.declared.word.Word.{Word}
 use Rattle.file_model.specs.Lines.{trace_text}
-use Rattle.file_model.specs.Machine.{start}
+use Rattle.file_model.specs.State.{start}
+use Rattle.script_lang.specs.Limits.{most_queued}
 use Rattle.nesc_monitor.specs.Endings.{Comes, HasFailed, IsOfSteps, IsReadOut, IsTurnedAway, Watched, WritesFront, WritesTrace, is_run, status_of}
 use Rattle.nesc_monitor.specs.Steps.{TellsAll, TellsFront}
 use Rattle.nesc_monitor.specs.Texts.{IsTold}
@@ -23,14 +24,14 @@ Comes-turned_away Read words commands schedule out run away same = (run, away, s
 Comes-turned_away Write words commands schedule out run away same = absurd away
 
 -- the trace of the steps is that of a run over the texts
-all_of : (commands schedule before after : Option (List ℕ)) (script : List HostCommand) (words : List Word) → IsTold commands schedule script words → TellsAll (start script) words before after → WritesTrace commands schedule before after
+all_of : (commands schedule before after : Option (List ℕ)) (script : Script) (words : List Word) → IsTold commands schedule script words → TellsAll (start most_queued script) words before after → WritesTrace commands schedule before after
 all_of None schedule before after script words told tells = tt
 all_of (Some commands) None before after script words told tells = tt
 all_of (Some commands) (Some schedule) None after script words told tells = tt
 all_of (Some commands) (Some schedule) (Some before) after script words told tells =
     (trace_text tells.groups, record { script = script; words = words; read_commands = told.0; read_schedule = told.1; groups = tells.groups; end = tells.end; run = tells.run; text = refl }, tells.all)
 
-front_of : (commands schedule before after : Option (List ℕ)) (script : List HostCommand) (words : List Word) → IsTold commands schedule script words → TellsFront (start script) words before after → WritesFront commands schedule before after
+front_of : (commands schedule before after : Option (List ℕ)) (script : Script) (words : List Word) → IsTold commands schedule script words → TellsFront (start most_queued script) words before after → WritesFront commands schedule before after
 front_of None schedule before after script words told tells = tt
 front_of (Some commands) None before after script words told tells = tt
 front_of (Some commands) (Some schedule) None after script words told tells = tt
@@ -39,8 +40,8 @@ front_of (Some commands) (Some schedule) (Some before) after script words told t
     (trace_text tells.groups, record { script = script; words = words; read_commands = told.0; read_schedule = told.1; groups = tells.groups; end = tells.end; run = tells.run; text = refl }, first.0, first.1, first.2)
 
 -- the steps were taken, to their end or up to a line that was cut short, or there was no memory for them
-pub Comes-steps : (ending : Ending) (line : List (List ℕ)) (commands schedule out : Watched) (script : List HostCommand) (words : List Word) → is_run line ≡ true → IsOfSteps ending → IsTold commands.before schedule.before script words
-    → IsReadOut commands.before commands.after → IsReadOut schedule.before schedule.after → (ending ≡ Done → TellsAll (start script) words out.before out.after) → (ending ≡ Write → TellsFront (start script) words out.before out.after)
+pub Comes-steps : (ending : Ending) (line : List (List ℕ)) (commands schedule out : Watched) (script : Script) (words : List Word) → is_run line ≡ true → IsOfSteps ending → IsTold commands.before schedule.before script words
+    → IsReadOut commands.before commands.after → IsReadOut schedule.before schedule.after → (ending ≡ Done → TellsAll (start most_queued script) words out.before out.after) → (ending ≡ Write → TellsFront (start most_queued script) words out.before out.after)
     → (ending ≡ Memory → out.after ≡ out.before) → (ending ≡ Write → HasFailed out) → Comes ending line commands schedule out
 Comes-steps Done line commands schedule out script words run of told one two all front memory failed =
     (run, all_of commands.before schedule.before out.before out.after script words told (all refl), one, two)

@@ -5,8 +5,9 @@ use Rattle.std.specs.List.{flat_map}
 use Rattle.std.proofs.lemmas.List.Concat.{flat_map-append}
 use Rattle.nesc_base.specs.declared.sink.WriteFault.{WriteFault}
 use Rattle.nesc_base.specs.declared.word.Word.{Word}
-use Rattle.file_model.specs.Lines.{done_text, group_text, line_text}
-use Rattle.file_model.specs.Machine.{State, Run}
+use Rattle.file_model.specs.Lines.{done_text, group_text}
+use Rattle.file_model.specs.Machine.{Run}
+use Rattle.file_model.specs.State.{State}
 use Rattle.file_model.specs.declared.line.Line.{Line}
 use Rattle.text_kit.specs.Writes.{Writes}
 use Rattle.text_kit.proofs.WritesLemmas.{Writes-cut, Writes-nothing, Writes-same, Writes-then}
@@ -17,10 +18,10 @@ use Rattle.nesc_monitor.proofs.RunLemmas.{Run-append, Run-length, Run-step}
 abbrev told : List (List Line) → List ℕ
 told = flat_map group_text
 
-told-push : (groups : List (List Line)) (line : Line) → told groups ++ line_text line ≡ told (groups ++ (line ∷ []) ∷ [])
-told-push groups line =
-    ap (λ text. told groups ++ text) (sym (append-nil (line_text line)) ∙ sym (append-nil (line_text line ++ [])))
-    ∙ sym (flat_map-append group_text groups ((line ∷ []) ∷ []))
+told-push : (groups : List (List Line)) (lines : List Line) → told groups ++ group_text lines ≡ told (groups ++ lines ∷ [])
+told-push groups lines =
+    ap (λ text. told groups ++ text) (sym (append-nil (group_text lines)))
+    ∙ sym (flat_map-append group_text groups (lines ∷ []))
 
 told-rest : (groups others : List (List Line)) (end : List ℕ) → told groups ++ (told others ++ end) ≡ told (groups ++ others) ++ end
 told-rest groups others end = sym (append_assoc (told groups) (told others) end) ∙ ap (λ text. text ++ end) (sym (flat_map-append group_text groups others))
@@ -34,11 +35,11 @@ module _ {K : Type 0} (taken : K → Option (List ℕ)) (faults : K → ℕ) (le
   pub TakesFirst-more : (old mid new : K) (now next : State) (word : Word) (left more : List Word) → left ≡ word ∷ more → TakesFirst taken faults lent state words old now left mid → TellsStep taken faults lent now word next mid new (Ok tt) → TakesFirst taken faults lent state words old next more new
   TakesFirst-more old mid new now next word left more is first step = record {
     done = first.done ++ word ∷ [];
-    groups = first.groups ++ (step.line ∷ []) ∷ [];
+    groups = first.groups ++ step.lines ∷ [];
     whole = append_assoc first.done (word ∷ []) more ∙ ap (λ rest. first.done ++ rest) (sym is) ∙ first.whole;
-    run = Run-step state now next first.done first.groups word (step.line ∷ []) first.run step.step;
-    writes = Writes-same taken faults lent old new _ _ (Ok tt) (told-push first.groups step.line)
-        (Writes-then taken faults lent old mid new (told first.groups) (line_text step.line) (Ok tt) first.writes step.writes);
+    run = Run-step state now next first.done first.groups word step.lines first.run step.step;
+    writes = Writes-same taken faults lent old new _ _ (Ok tt) (told-push first.groups step.lines)
+        (Writes-then taken faults lent old mid new (told first.groups) (group_text step.lines) (Ok tt) first.writes step.writes);
   }
 
   -- the end is reached, and told
@@ -58,8 +59,8 @@ module _ {K : Type 0} (taken : K → Option (List ℕ)) (faults : K → ℕ) (le
   pub TakesSteps-cut : ((from : State) (rest : List Word) → (groups : List (List Line)) × (end : State) × Run from rest groups end) → (old mid new : K) (now next : State) (word : Word) (left more : List Word) (fault : WriteFault) (answer : Result (Unit {0}) WriteFault) → IsErr answer → left ≡ word ∷ more → TakesFirst taken faults lent state words old now left mid → TellsStep taken faults lent now word next mid new (Err fault) → TakesSteps taken faults lent state words old new answer
   TakesSteps-cut total old mid new now next word left more fault answer failed is first step =
       let goes_on = total next more in
-      let begun = Run-step state now next first.done first.groups word (step.line ∷ []) first.run step.step in
-      let groups = first.groups ++ (step.line ∷ []) ∷ [] in
+      let begun = Run-step state now next first.done first.groups word step.lines first.run step.step in
+      let groups = first.groups ++ step.lines ∷ [] in
       let whole : (first.done ++ word ∷ []) ++ more ≡ words = append_assoc first.done (word ∷ []) more ∙ ap (λ rest. first.done ++ rest) (sym is) ∙ first.whole in
       let all = Run-append state next goes_on.1 (first.done ++ word ∷ []) more groups goes_on.0 begun goes_on.2 in
       let end = done_text (length (groups ++ goes_on.0)) in
@@ -67,7 +68,7 @@ module _ {K : Type 0} (taken : K → Option (List ℕ)) (faults : K → ℕ) (le
         groups = groups ++ goes_on.0;
         end = goes_on.1;
         run = let P : List Word → Type 0 = λ ws. Run state ws (groups ++ goes_on.0) goes_on.1 in subst P whole all;
-        writes = Writes-same taken faults lent old new _ _ answer (ap (λ text. text ++ (told goes_on.0 ++ end)) (told-push first.groups step.line) ∙ told-rest groups goes_on.0 end)
-            (Writes-cut taken faults lent old new (told first.groups ++ line_text step.line) (told goes_on.0 ++ end) fault answer failed
-            (Writes-then taken faults lent old mid new (told first.groups) (line_text step.line) (Err fault) first.writes step.writes));
+        writes = Writes-same taken faults lent old new _ _ answer (ap (λ text. text ++ (told goes_on.0 ++ end)) (told-push first.groups step.lines) ∙ told-rest groups goes_on.0 end)
+            (Writes-cut taken faults lent old new (told first.groups ++ group_text step.lines) (told goes_on.0 ++ end) fault answer failed
+            (Writes-then taken faults lent old mid new (told first.groups) (group_text step.lines) (Err fault) first.writes step.writes));
       }

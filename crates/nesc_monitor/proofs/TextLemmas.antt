@@ -1,26 +1,26 @@
 -- What was judged of the texts holds of what their sources had left.
 use Rattle.std.proofs.Common.{◌≡◌, ℕ, ◌≤◌, List, length, Option, Some, None, inr, subst}
-use Rattle.nesc_base.specs.declared.host.HostCommand.{HostCommand}
-use Rattle.nesc_monitor.specs.CommandsText.{IsCommandsText}
+use Rattle.nesc_base.specs.Script.{Script}
+use Rattle.script_lang.specs.CommandsText.{IsCommandsText}
 use Rattle.nesc_monitor.specs.Endings.{IsCommandsRefused, IsScheduleRefused, IsTurnedAway, Watched}
-use Rattle.nesc_monitor.specs.Limits.{most_bytes}
+use Rattle.script_lang.specs.Limits.{most_bytes}
 use Rattle.nesc_monitor.specs.Reading.{GivesAll}
-use Rattle.nesc_monitor.specs.ScheduleText.{schedule_of}
+use Rattle.script_lang.specs.ScheduleText.{schedule_of}
 use Rattle.nesc_monitor.specs.Texts.{IsRefusal}
 use Rattle.nesc_monitor.specs.declared.ending.Ending.{Ending}
 use Rattle.nesc_monitor.specs.declared.ending.Ending.TheVariants.{Done, Words, Memory, Commands, Schedule, Read, Write}
 
 commands_refused : (commands schedule : List ℕ) (told told_after other other_after : Option (List ℕ)) → GivesAll commands told told_after → GivesAll schedule other other_after → length schedule ≤ most_bytes
-    → ((script : List HostCommand) → ¬ IsCommandsText commands script) → IsCommandsRefused told other
+    → ((script : Script) → ¬ IsCommandsText commands script) → IsCommandsRefused told other
 commands_refused commands schedule None after other other_after one two within refused = tt
 commands_refused commands schedule (Some bytes) after None other_after one two within refused = tt
 commands_refused commands schedule (Some bytes) after (Some others) other_after one two within refused =
-    let P : List ℕ → Type 0 = λ text. (script : List HostCommand) → ¬ IsCommandsText text script in
+    let P : List ℕ → Type 0 = λ text. (script : Script) → ¬ IsCommandsText text script in
     let Q : List ℕ → Type 0 = λ text. length text ≤ most_bytes in
     (subst P one.0 refused, inr (subst Q two.0 within))
 
 schedule_refused : (commands schedule : List ℕ) (told told_after other other_after : Option (List ℕ)) → GivesAll commands told told_after → GivesAll schedule other other_after → length commands ≤ most_bytes
-    → (schedule_of schedule ≡ None) × (script : List HostCommand) × IsCommandsText commands script → IsScheduleRefused told other
+    → (schedule_of schedule ≡ None) × (script : Script) × IsCommandsText commands script → IsScheduleRefused told other
 schedule_refused commands schedule None after other other_after one two within refused = tt
 schedule_refused commands schedule (Some bytes) after None other_after one two within refused = tt
 schedule_refused commands schedule (Some bytes) after (Some others) other_after one two within refused =

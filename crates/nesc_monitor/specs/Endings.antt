@@ -3,14 +3,15 @@ use Rattle.std.specs.Prelude.{◌≡◌, ℕ, ◌<◌, ◌≤◌, ◌⊎◌, ◌
 use Rattle.std.specs.Str.{bytes_eq}
 use Rattle.nesc_base.specs.Fault.{Rose}
 use Rattle.nesc_base.specs.Sink.{Appends}
-use Rattle.nesc_base.specs.declared.host.HostCommand.{HostCommand}
+use Rattle.nesc_base.specs.Script.{Script}
 use Rattle.nesc_base.specs.declared.word.Word.{Word}
 use Rattle.file_model.specs.Lines.{trace_text}
-use Rattle.file_model.specs.Machine.{State, Run, start}
+use Rattle.file_model.specs.Machine.{Run}
+use Rattle.file_model.specs.State.{State, start}
 use Rattle.file_model.specs.declared.line.Line.{Line}
-use Rattle.nesc_monitor.specs.CommandsText.{IsCommandsText}
-use Rattle.nesc_monitor.specs.Limits.{most_bytes}
-use Rattle.nesc_monitor.specs.ScheduleText.{schedule_of}
+use Rattle.script_lang.specs.CommandsText.{IsCommandsText}
+use Rattle.script_lang.specs.Limits.{most_bytes, most_queued}
+use Rattle.script_lang.specs.ScheduleText.{schedule_of}
 use Rattle.nesc_monitor.specs.declared.ending.Ending.{Ending}
 use Rattle.nesc_monitor.specs.declared.ending.Ending.TheVariants as ending
 use Rattle.nesc_monitor.specs.declared.ending.Status.{Status}
@@ -69,13 +70,13 @@ IsReadOut (Some bytes) after = after ≡ Some []
 -- The output is the trace of a run of the plain machine, from no files, over the commands of the one text and the
 -- words of the other.
 pub record IsTrace (commands schedule output : List ℕ) : Type 0 where
-  pub script : List HostCommand
+  pub script : Script
   pub words : List Word
   pub read_commands : IsCommandsText commands script
   pub read_schedule : schedule_of schedule ≡ Some words
   pub groups : List (List Line)
   pub end : State
-  pub run : Run (start script) words groups end
+  pub run : Run (start most_queued script) words groups end
   pub text : output ≡ trace_text groups
 
 -- where the sources and the sink tell their bytes: such an output stands behind what the sink had
@@ -93,14 +94,14 @@ WritesFront commands schedule before after = Unit {0}
 -- another only once the schedule is read too.
 abbrev pub IsCommandsRefused : Option (List ℕ) → Option (List ℕ) → Type 0
 IsCommandsRefused (Some commands) (Some schedule) =
-    ((script : List HostCommand) → ¬ IsCommandsText commands script) × ((most_bytes < length commands) ⊎ (length schedule ≤ most_bytes))
+    ((script : Script) → ¬ IsCommandsText commands script) × ((most_bytes < length commands) ⊎ (length schedule ≤ most_bytes))
 IsCommandsRefused commands schedule = Unit {0}
 
 -- Where the sources tell their texts: the schedule is refused. One that is too long is so while it is read, and
 -- another only once the commands are accepted.
 abbrev pub IsScheduleRefused : Option (List ℕ) → Option (List ℕ) → Type 0
 IsScheduleRefused (Some commands) (Some schedule) =
-    (schedule_of schedule ≡ None) × (length commands ≤ most_bytes) × ((most_bytes < length schedule) ⊎ ((script : List HostCommand) × IsCommandsText commands script))
+    (schedule_of schedule ≡ None) × (length commands ≤ most_bytes) × ((most_bytes < length schedule) ⊎ ((script : Script) × IsCommandsText commands script))
 IsScheduleRefused commands schedule = Unit {0}
 
 -- why no step was taken, where the texts were looked at: the sources, and why

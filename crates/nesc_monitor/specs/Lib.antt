@@ -1,12 +1,5 @@
-pub mod CommandsText
 pub mod Endings
-pub mod FilesInMemory
-pub mod HeldBlocks
-pub mod Limits
+pub mod Pieces
 pub mod Reading
-pub mod Reads
 pub mod Steps
-pub mod ScheduleText
-pub mod Session
 pub mod Texts
-pub mod Words

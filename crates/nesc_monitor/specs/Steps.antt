@@ -1,20 +1,21 @@
 -- The steps of a run, and what is told of them.
-use Rattle.std.specs.Prelude.{◌≡◌, ℕ, ◌++◌, List, [], ◌∷◌, Option, Result, Ok}
+use Rattle.std.specs.Prelude.{◌≡◌, ℕ, ◌++◌, List, Option, Result, Ok}
 use Rattle.std.specs.List.{flat_map}
 use Rattle.nesc_base.specs.Sink.{Appends, Lent}
 use Rattle.nesc_base.specs.declared.sink.WriteFault.{WriteFault}
 use Rattle.nesc_base.specs.declared.word.Word.{Word}
-use Rattle.file_model.specs.Lines.{group_text, line_text, trace_text}
-use Rattle.file_model.specs.Machine.{State, Step, Run}
+use Rattle.file_model.specs.Lines.{group_text, trace_text}
+use Rattle.file_model.specs.Machine.{Step, Run}
+use Rattle.file_model.specs.State.{State}
 use Rattle.file_model.specs.declared.line.Line.{Line}
 use Rattle.text_kit.specs.Known.{AppendsPrefix}
 use Rattle.text_kit.specs.Writes.{Writes}
 
--- A step is taken, and then its line is written.
+-- A step is taken, and then its lines are written.
 pub record TellsStep {K : Type 0} (taken : K → Option (List ℕ)) (faults : K → ℕ) (lent : K → Lent) (old : State) (word : Word) (new : State) (before after : K) (result : Result (Unit {0}) WriteFault) : Type 0 where
-  pub line : Line
-  pub step : Step old word (line ∷ []) new
-  pub writes : Writes taken faults lent before after (line_text line) result
+  pub lines : List Line
+  pub step : Step old word lines new
+  pub writes : Writes taken faults lent before after (group_text lines) result
 
 -- The steps of some words are taken from a state on, and their trace is written.
 pub record TakesSteps {K : Type 0} (taken : K → Option (List ℕ)) (faults : K → ℕ) (lent : K → Lent) (state : State) (words : List Word) (old new : K) (result : Result (Unit {0}) WriteFault) : Type 0 where

@@ -1,20 +1,20 @@
 ghost use Rattle.std.specs.Prelude.{◌≡◌, ◌≤◌, ◌↔◌, [], map, false, string_bytes, IsErr, OnOk};
 ghost use Rattle.nesc_base.specs.Fault.{HasCause};
 ghost use Rattle.text_kit.specs.Buffered.{lent_name, pending_of, sink_of};
-ghost use Rattle.file_model.specs.Machine.{start};
-ghost use Rattle.nesc_monitor.specs.CommandsText.{blocks_in_all};
+ghost use Rattle.file_model.specs.State.{start};
+ghost use Rattle.script_lang.specs.CommandsText.{blocks_in_all};
 ghost use Rattle.nesc_monitor.specs.Endings.{Comes, IsOfSteps, IsToldOn, WritesTrace, is_run, status_of};
-ghost use Rattle.nesc_monitor.specs.Limits.{most_blocks};
-ghost use Rattle.nesc_monitor.specs.Session.{HasRoom, state_of};
+ghost use Rattle.script_lang.specs.Limits.{most_blocks, most_queued};
+ghost use Rattle.nesc_session.specs.Session.{IsReady, state_of};
 ghost use Rattle.nesc_monitor.specs.Steps.{TellsAll, TellsFront};
 ghost use Rattle.nesc_monitor.specs.declared.ending.Ending.{Ending};
 
 use crate::ending::{Ending, Status};
-use crate::schedule::Schedule;
-use crate::session::Session;
 use crate::steps::take_steps;
 use crate::texts::{Script, read_script};
 use nesc_base::{Sink, Source, WriteFault};
+use nesc_session::Session;
+use script_lang::Schedule;
 use std::alloc::Global;
 use text_kit::{Buffer, Buffered, write_text};
 
@@ -24,7 +24,7 @@ fn write_trace<K: Sink>(
     schedule: &mut Schedule,
     buffered: &mut Buffered<'_, K>,
 ) -> Result<(), WriteFault>
-    requires room { HasRoom session.old }
+    requires room { IsReady session.old }
     requires empty { pending_of buffered.old ≡ [] }
     ensures all { OnOk result (TellsAll (state_of session.old) schedule.old (K.taken (sink_of buffered.old)) (K.taken (sink_of buffered.new))) }
     ensures front { TellsFront (state_of session.old) schedule.old (K.taken (sink_of buffered.old)) (K.taken (sink_of buffered.new)) }
@@ -44,7 +44,7 @@ fn write_out<K: Sink>(
     buffer: &mut Buffer,
     out: &mut K,
 ) -> Result<(), WriteFault>
-    requires { HasRoom session.old }
+    requires { IsReady session.old }
     ensures all { OnOk result (TellsAll (state_of session.old) schedule.old (K.taken out.old) (K.taken out.new)) }
     ensures front { TellsFront (state_of session.old) schedule.old (K.taken out.old) (K.taken out.new) }
     ensures cause { HasCause (K.faults out.old) (K.faults out.new) (IsErr result) }
@@ -56,8 +56,8 @@ fn write_out<K: Sink>(
 /// Takes the steps of a script from no files on, and writes their trace.
 fn write_run<K: Sink>(alloc: Global, script: Script, out: &mut K) -> Ending
     requires { blocks_in_all script.commands ≤ most_blocks }
-    ensures all { result ≡ Ending.Done → TellsAll (start script.commands) script.schedule (K.taken out.old) (K.taken out.new) }
-    ensures front { result ≡ Ending.Write → TellsFront (start script.commands) script.schedule (K.taken out.old) (K.taken out.new) }
+    ensures all { result ≡ Ending.Done → TellsAll (start most_queued script.commands) script.schedule (K.taken out.old) (K.taken out.new) }
+    ensures front { result ≡ Ending.Write → TellsFront (start most_queued script.commands) script.schedule (K.taken out.old) (K.taken out.new) }
     ensures memory { result ≡ Ending.Memory → K.taken out.new ≡ K.taken out.old }
     ensures others { IsOfSteps result }
     ensures cause { HasCause (K.faults out.old) (K.faults out.new) (result ≡ Ending.Write) }

@@ -2,8 +2,8 @@ ghost use Rattle.std.specs.Prelude.{◌≡◌, ◌<◌, ◌≤◌, [], length, I
 ghost use Rattle.nesc_base.specs.Fault.{HasCause};
 ghost use Rattle.nesc_monitor.specs.Reading.{GivesAll, GivesTooMany};
 
-use crate::schedule::MOST_BYTES;
 use nesc_base::{ReadFault, Source};
+use script_lang::MOST_BYTES;
 use std::alloc::{AllocError, Global};
 
 /// How many bytes are asked for in one call.

@@ -1,19 +1,19 @@
 ghost use Rattle.nesc_monitor.specs.Steps.{TakesSteps, TellsStep};
-ghost use Rattle.nesc_monitor.specs.Session.{HasRoom, state_of};
+ghost use Rattle.nesc_session.specs.Session.{IsReady, state_of};
 
-use crate::schedule::Schedule;
-use crate::session::Session;
-use crate::trace::{write_done, write_line};
+use crate::trace::{write_done, write_outcome};
 use nesc_base::{Sink, Word, WriteFault};
+use nesc_session::Session;
+use script_lang::Schedule;
 
-/// Takes one step, and then writes its line.
+/// Takes one step, and then writes its lines.
 fn take_step<K: Sink>(session: &mut Session, word: Word, sink: &mut K) -> Result<(), WriteFault>
-    requires { HasRoom session.old }
+    requires { IsReady session.old }
     ensures told { TellsStep K.taken K.faults K.lent (state_of session.old) word (state_of session.new) sink.old sink.new result }
-    ensures room { HasRoom session.new }
+    ensures room { IsReady session.new }
 {
-    let line = session.step(word);
-    write_line(sink, &line)
+    let outcome = session.step(word);
+    write_outcome(sink, &outcome)
 }
 
 /// Takes the steps of a schedule, and writes the lines of each behind it and `done N` at the end.
@@ -22,7 +22,7 @@ pub fn take_steps<K: Sink>(
     schedule: &mut Schedule,
     sink: &mut K,
 ) -> Result<(), WriteFault>
-    requires { HasRoom session.old }
+    requires { IsReady session.old }
     ensures { TakesSteps K.taken K.faults K.lent (state_of session.old) schedule.old sink.old sink.new result }
 {
     let steps = schedule.steps() as u64;

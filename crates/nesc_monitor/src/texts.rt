@@ -1,17 +1,15 @@
 ghost use Rattle.std.specs.Prelude.{◌≡◌, ◌≤◌, Some, length, IfErr, IfOk, OnOk};
-ghost use Rattle.nesc_monitor.specs.CommandsText.{IsCommandsText, blocks_in_all};
+ghost use Rattle.script_lang.specs.CommandsText.{IsCommandsText, blocks_in_all};
 ghost use Rattle.nesc_monitor.specs.Endings.{IsReadOut, IsTurnedAway};
-ghost use Rattle.nesc_monitor.specs.Limits.{most_blocks};
+ghost use Rattle.script_lang.specs.Limits.{most_blocks};
 ghost use Rattle.nesc_monitor.specs.Reading.{GivesAll};
-ghost use Rattle.nesc_monitor.specs.ScheduleText.{schedule_of};
+ghost use Rattle.script_lang.specs.ScheduleText.{schedule_of};
 ghost use Rattle.nesc_monitor.specs.Texts.{IsRefusal, IsTold};
 
 use crate::ending::Ending;
-use crate::fault::InputFault;
 use crate::reading::{ReadStop, read_text};
-use crate::schedule::{Schedule, read_schedule};
-use crate::script::{Commands, read_commands};
 use nesc_base::Source;
+use script_lang::{Commands, InputFault, Schedule, read_commands, read_schedule};
 use std::alloc::Global;
 
 /// The two texts, as they were read.

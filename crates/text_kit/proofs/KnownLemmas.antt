@@ -1,11 +1,11 @@
 -- What follows of bytes that a sink has taken one after another.
-use Rattle.std.proofs.Common.{◌≡◌, ℕ, ◌+◌, ◌-◌, ◌≤◌, [], ◌++◌, List, length, take, drop, Option, Some, None, refl, arith, append_assoc, append-nil, length-append, ap, ◌∙◌, sym, take-add}
+use Rattle.std.proofs.Common.{◌≡◌, ℕ, ◌+◌, ◌-◌, ◌≤◌, ◌++◌, List, length, take, drop, Option, Some, None, arith, append_assoc, length-append, ap, ◌∙◌, take-add}
 use Rattle.std.proofs.lemmas.Grind.{common_steps}
 use Rattle.std.proofs.lemmas.List.{take-append-drop, take-append-le}
 use Rattle.std.proofs.Math.Seq.{take-append-add}
 use Rattle.std.proofs.lemmas.Slice.{between_to_end}
 use Rattle.nesc_base.specs.Sink.{Appends}
-use Rattle.text_kit.specs.Known.{AppendsPrefix, Keeps, KeepsPrefix, followed_by}
+use Rattle.text_kit.specs.Known.{AppendsPrefix, Keeps, followed_by}
 
 -- two texts that came one behind the other came as one
 pub Appends-append : (old mid new : Option (List ℕ)) (xs ys : List ℕ) → Appends old mid xs → Appends mid new ys → Appends old new (xs ++ ys)
@@ -36,12 +36,6 @@ Appends-pending None known pending more kept = tt
 Appends-pending (Some old) None pending more kept = absurd (cc)
 Appends-pending (Some old) (Some known) pending more kept = grind (arith, common_steps)
 
--- what the sink has taken is the front of what is shown
-pub KeepsPrefix-followed_by : (old known : Option (List ℕ)) (pending : List ℕ) → Keeps old (followed_by known pending) → KeepsPrefix old known
-KeepsPrefix-followed_by None known pending kept = tt
-KeepsPrefix-followed_by (Some old) None pending kept = absurd (cc)
-KeepsPrefix-followed_by (Some old) (Some known) pending kept = (known, pending, cc, refl)
-
 -- the first bytes of a text are the first of a longer one
 pub AppendsPrefix-left : (old new : Option (List ℕ)) (xs ys : List ℕ) → AppendsPrefix old new xs → AppendsPrefix old new (xs ++ ys)
 AppendsPrefix-left None new xs ys came = tt
@@ -58,18 +52,3 @@ AppendsPrefix-right (Some old) (Some mid) new xs ys whole came = (
   omega (arith, came.1, length-append xs ys),
   rw take-append-add (let begun : mid ≡ old ++ xs = cc in came.2 ∙ ap Some (ap (λ bytes. bytes ++ take came.0 ys) begun ∙ append_assoc old xs (take came.0 ys))),
 )
-
--- where nothing was pending, what is shown is what the sink has taken
-pub followed_by-nil : (known : Option (List ℕ)) → followed_by known [] ≡ known
-followed_by-nil None = refl
-followed_by-nil (Some known) = ap Some (append-nil known)
-
--- of what was there with a text behind, the first bytes are there
-pub KeepsPrefix-appended : (old mid new : Option (List ℕ)) (text : List ℕ) → AppendsPrefix old mid text → KeepsPrefix mid new → KeepsPrefix (followed_by old text) new
-KeepsPrefix-appended None mid new text came kept = tt
-KeepsPrefix-appended (Some old) None new text came kept = absurd (let e = came.2 in cc)
-KeepsPrefix-appended (Some old) (Some mid) new text came kept =
-    let grown : mid ≡ old ++ take came.0 text = let e = came.2 in cc in
-    let whole : old ++ text ≡ mid ++ drop came.0 text =
-    ap (λ bytes. old ++ bytes) (sym (take-append-drop came.0 text)) ∙ sym (append_assoc old (take came.0 text) (drop came.0 text)) ∙ ap (λ bytes. bytes ++ drop came.0 text) (sym grown) in
-    (kept.0, kept.1 ++ drop came.0 text, whole ∙ ap (λ bytes. bytes ++ drop came.0 text) kept.2 ∙ append_assoc kept.0 kept.1 (drop came.0 text), kept.3)

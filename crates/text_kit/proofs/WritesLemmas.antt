@@ -13,11 +13,6 @@ pub Rose-earlier : (a b c : ℕ) → a ≤ b → Rose b c → Rose a c
 Rose-earlier a b c before (inl rose) = inl (omega arith)
 Rose-earlier a b c before (inr most) = inr most
 
--- what rose by a count that does not fall later has risen
-pub Rose-later : (a b c : ℕ) → b ≤ c → c ≤ 18446744073709551615 → Rose a b → Rose a c
-Rose-later a b c after most (inl rose) = inl (omega arith)
-Rose-later a b c after most (inr stands) = inr (omega arith)
-
 -- what only grew, and grew again, only grew
 pub Grows-then : (old mid new : Option (List ℕ)) → Grows old mid → Grows mid new → Grows old new
 Grows-then None mid new one other = tt
@@ -34,11 +29,6 @@ StaysLent-then old mid new one other = record { same = other.same ∙ one.same; 
 
 pub StaysLent-still : (lent : Lent) → StaysLent lent lent
 StaysLent-still lent = record { same = refl; more = Grows-still lent.handed }
-
--- what came behind the bytes is more of them
-pub Grows-Appends : (old new : Option (List ℕ)) (bytes : List ℕ) → Appends old new bytes → Grows old new
-Grows-Appends None new bytes came = tt
-Grows-Appends (Some old) new bytes came = (bytes, came)
 
 module _ {K : Type 0} (taken : K → Option (List ℕ)) (faults : K → ℕ) (lent : K → Lent) where
   -- behind a whole text came another, or the first bytes of it

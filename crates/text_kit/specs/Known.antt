@@ -11,11 +11,6 @@ abbrev pub Keeps : Option (List ℕ) → Option (List ℕ) → Type 0
 Keeps None new = Unit {0}
 Keeps (Some old) new = new ≡ Some old
 
--- the front of them is there, and the rest is not
-abbrev pub KeepsPrefix : Option (List ℕ) → Option (List ℕ) → Type 0
-KeepsPrefix None new = Unit {0}
-KeepsPrefix (Some old) new = (front : List ℕ) × (rest : List ℕ) × (old ≡ front ++ rest) × (new ≡ Some front)
-
 -- they, and then these
 abbrev pub followed_by : Option (List ℕ) → List ℕ → Option (List ℕ)
 followed_by known more = option_map (λ bytes. bytes ++ more) known

@@ -1,4 +1,4 @@
-use Rattle.file_model.proofs.NeverStuck.{every_answered}
+use Rattle.file_model.proofs.Commands.{every_answered}
 use Rattle.file_model.proofs.laws.every_command_is_answered.Goals as goal
 
 pub returns : goal.returns

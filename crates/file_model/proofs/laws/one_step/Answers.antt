@@ -1,0 +1,5 @@
+use Rattle.file_model.proofs.OneStep.{one_step}
+use Rattle.file_model.proofs.laws.one_step.Goals as goal
+
+pub returns : goal.returns
+returns c = one_step

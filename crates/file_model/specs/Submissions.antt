@@ -1,0 +1,52 @@
+-- A guest's turn to give its next request.
+use Rattle.std.specs.Prelude.{◌≡◌, ℕ, ◌+◌, ◌<◌, ◌≤◌, List, [], ◌∷◌, ◌++◌, length, min, Some, None}
+use Rattle.nesc_base.specs.declared.request.Request.{Request}
+use Rattle.nesc_base.specs.Script.{numbered, requests_of, with_numbered}
+use Rattle.file_model.specs.Functions.{Attached, Function, attached_of}
+use Rattle.file_model.specs.State.{State}
+use Rattle.file_model.specs.declared.line.Submission.{Submission}
+use Rattle.file_model.specs.declared.line.Submission.TheVariants as submission
+
+-- the number after a number, which stands still at 2^64 - 1
+abbrev pub following : ℕ → ℕ
+following n = min (n + 1) 18446744073709551615
+
+-- the function with one request more
+abbrev pub queueing : Function → Attached → Request → Function
+queueing function attached request = record {
+  attached = Some (record attached { queue = attached.queue ++ (record { id = function.next; request = request }) ∷ [] });
+  next = following function.next;
+}
+
+-- the guest's next request waits for its function, whose queue has room for it
+pub record Queues (old : State) (f id : ℕ) (new : State) : Type 0 where
+  pub function : Function
+  pub stands : numbered old.functions f ≡ Some function
+  pub attached : Attached
+  pub on : function.attached ≡ Some attached
+  pub request : Request
+  pub left : List Request
+  pub next : requests_of old.script f ≡ request ∷ left
+  pub room : length attached.queue < old.depth
+  pub number : id ≡ function.next
+  pub result : new ≡ record old {
+    functions = with_numbered old.functions f (queueing function attached request);
+    script = record old.script { guests = with_numbered old.script.guests f left };
+  }
+
+-- the guest keeps its request, as the function has as many as may wait for one
+pub record IsFull (old : State) (f : ℕ) : Type 0 where
+  pub attached : Attached
+  pub on : attached_of old.functions f ≡ Some attached
+  pub full : old.depth ≤ length attached.queue
+
+-- the guest has a request left
+abbrev pub HasNext : State → ℕ → Type 0
+HasNext old f = (request : Request) × (left : List Request) × (requests_of old.script f ≡ request ∷ left)
+
+-- What comes of the turn. The first of end, off, full and the number that applies is the answer.
+abbrev pub Submits : State → ℕ → Submission → State → Type 0
+Submits old f submission.End new = (requests_of old.script f ≡ []) × (new ≡ old)
+Submits old f submission.Off new = HasNext old f × (attached_of old.functions f ≡ None) × (new ≡ old)
+Submits old f submission.Full new = HasNext old f × IsFull old f × (new ≡ old)
+Submits old f (submission.Queued id) new = Queues old f id new

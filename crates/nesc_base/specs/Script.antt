@@ -1,0 +1,23 @@
+-- What the host and the guests have to give.
+use Rattle.std.specs.Prelude.{ℕ, zero, suc, List, [], slice_get, slice_set, Option, None, unwrap_or}
+use Rattle.nesc_base.specs.declared.host.HostCommand.{HostCommand}
+use Rattle.nesc_base.specs.declared.request.Request.{Request}
+
+-- the entry of a number, counted from 1
+abbrev pub numbered : {A : Type 0} → List A → ℕ → Option A
+numbered xs zero = None
+numbered xs (suc i) = slice_get xs i
+
+-- the list with another entry of this number
+abbrev pub with_numbered : {A : Type 0} → List A → ℕ → A → List A
+with_numbered xs zero x = xs
+with_numbered xs (suc i) x = slice_set xs i x
+
+-- the host's commands, and the requests of each guest, numbered from 1
+pub record Script : Type 0 where
+  pub host : List HostCommand
+  pub guests : List (List Request)
+
+-- the requests of a guest
+abbrev pub requests_of : Script → ℕ → List Request
+requests_of script f = unwrap_or (numbered script.guests f) []

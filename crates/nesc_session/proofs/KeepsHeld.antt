@@ -1,0 +1,80 @@
+-- What was held is held still, whatever happens to the files.
+use Rattle.std.proofs.Common.{◌≡◌, ℕ, ◌+◌, Bool, true, false, cond, eqb, List, [], ◌∷◌, Option, None, Some, IsSome, unwrap_or, is_some, refl, sym, ap, subst, ◌∙◌}
+use Rattle.std.proofs.lemmas.Bool.{false≢true}
+use Rattle.std.specs.Ordering.{nat_cmp}
+use Rattle.std.specs.FinMap.{empty, get, get-empty, insert}
+use Rattle.nesc_base.specs.declared.block.Block.{Block}
+use Rattle.nesc_base.specs.declared.host.HostCommand.{HostCommand}
+use Rattle.nesc_base.specs.declared.host.HostCommand.TheVariants.{Create, Put, Get}
+use Rattle.nesc_base.specs.declared.host.HostAnswer.{HostAnswer}
+use Rattle.nesc_base.specs.declared.host.HostAnswer.TheVariants.{Ok, Exists, NoSlot, NoFile, Range, Got}
+use Rattle.file_model.specs.Files.{Change, Changes, File, Files, PutsEach, create, file_at, hold, holds, put}
+use Rattle.file_model.specs.Handlings.{HoldsAll}
+use Rattle.file_model.specs.HostCommands.{FileStep}
+use Rattle.nesc_session.specs.Room.{KeepsHeld}
+use Rattle.nesc_session.proofs.Puts.{is_some-insert, is_some-with_zeros}
+use Rattle.nesc_session.proofs.Written.{get-insert_at, same_number}
+
+-- whether the file of a number holds a block, by whether there is one
+holds_of : Option File → ℕ → Bool
+holds_of o v = holds (unwrap_or o (record { name = []; length = 0; body = empty })) v
+
+-- a file that is not there holds none
+holds_of-None : (o : Option File) (v : ℕ) → o ≡ None → holds_of o v ≡ false
+unfolding holds_of
+holds_of-None o v none = ap (λ q. holds_of q v) none ∙ ap is_some (get-empty nat_cmp v)
+
+pub KeepsHeld-same : {old new : Files} → new ≡ old → KeepsHeld old new
+KeepsHeld-same same n v held = ap (λ files. holds (file_at files n) v) same ∙ held
+
+KeepsHeld-then : (old mid new : Files) → KeepsHeld old mid → KeepsHeld mid new → KeepsHeld old new
+KeepsHeld-then old mid new first second n v held = second n v (first n v held)
+
+-- one file is another now, which holds what it held
+KeepsHeld-insert : (old : Files) {new : Files} (n : ℕ) (file : File) → new ≡ insert old n file → ((v : ℕ) → holds_of (get old n) v ≡ true → IsSome (get file.body v)) → KeepsHeld old new
+unfolding holds_of
+KeepsHeld-insert old n file is keeps m v held =
+    ap (λ files. holds_of (get files m) v) is
+    ∙ ap (λ o. holds_of o v) (get-insert_at old n file m)
+    ∙ at (eqb m n) refl
+  where
+    at : (b : Bool) → eqb m n ≡ b → holds_of (cond b (Some file) (get old m)) v ≡ true
+    at true same = keeps v (subst (λ q. holds_of (get old q) v ≡ true) (same_number m n same) held)
+    at false apart = held
+
+-- the same of a file that stood there, whose body alone is another
+KeepsHeld-stands : (old : Files) {new : Files} (n : ℕ) (old_file file : File) → get old n ≡ Some old_file → new ≡ insert old n file → ((v : ℕ) → IsSome (get old_file.body v) → IsSome (get file.body v)) → KeepsHeld old new
+unfolding holds_of
+KeepsHeld-stands old n old_file file stands is keeps =
+    KeepsHeld-insert old n file is (λ v held. keeps v (sym (ap (λ o. holds_of o v) stands) ∙ held))
+
+pub KeepsHeld-Changes : (old new : Files) (change : Change) → Changes old change new → KeepsHeld old new
+KeepsHeld-Changes old new (create name length) creates =
+    KeepsHeld-insert old creates.number _ creates.result
+    (λ v held. absurd (false≢true (sym (holds_of-None _ v creates.lowest.unused) ∙ held)))
+KeepsHeld-Changes old new (hold n blocks) holding =
+    KeepsHeld-stands old n holding.file _ holding.stands holding.result (λ v. is_some-with_zeros holding.file.body blocks v)
+KeepsHeld-Changes old new (put n v block) puts =
+    KeepsHeld-stands old n puts.file _ puts.stands puts.result (λ at. is_some-insert puts.file.body v block at)
+
+pub KeepsHeld-HoldsAll : (old new : Files) (n : ℕ) (blocks : List ℕ) → HoldsAll old n blocks new → KeepsHeld old new
+KeepsHeld-HoldsAll old new n [] same = KeepsHeld-same same
+KeepsHeld-HoldsAll old new n (v ∷ blocks) holding = KeepsHeld-Changes old new (hold n (v ∷ blocks)) holding
+
+KeepsHeld-PutsEach : (old new : Files) (n v : ℕ) (blocks : List Block) → PutsEach old n v blocks new → KeepsHeld old new
+KeepsHeld-PutsEach old new n v [] same = KeepsHeld-same same
+KeepsHeld-PutsEach old new n v (block ∷ blocks) puts =
+    KeepsHeld-then old puts.0 new (KeepsHeld-Changes old puts.0 (put n v block) puts.1) (KeepsHeld-PutsEach puts.0 new n (v + 1) blocks puts.2)
+
+pub KeepsHeld-FileStep : (old new : Files) (command : HostCommand) (answer : HostAnswer) → FileStep old command answer new → KeepsHeld old new
+KeepsHeld-FileStep old new (Create name length) Ok creates = KeepsHeld-Changes old new (create name length) creates
+KeepsHeld-FileStep old new (Create name length) Exists refused = KeepsHeld-same refused.3
+KeepsHeld-FileStep old new (Create name length) NoSlot refused = KeepsHeld-same refused.2
+KeepsHeld-FileStep old new (Put name v blocks) Ok puts =
+    KeepsHeld-then old puts.held new (KeepsHeld-Changes old puts.held (hold puts.number _) puts.holds) (KeepsHeld-PutsEach puts.held new puts.number v blocks puts.puts)
+KeepsHeld-FileStep old new (Put name v blocks) NoFile refused = KeepsHeld-same refused.1
+KeepsHeld-FileStep old new (Put name v blocks) Range refused = KeepsHeld-same refused.1
+KeepsHeld-FileStep old new (Get name v into) NoFile refused = KeepsHeld-same refused.1
+KeepsHeld-FileStep old new (Get name v into) Range refused = KeepsHeld-same refused.1
+KeepsHeld-FileStep old new (Get name v into) (Got blocks) gets = KeepsHeld-same gets.1
+KeepsHeld-FileStep old new command answer refused = absurd refused

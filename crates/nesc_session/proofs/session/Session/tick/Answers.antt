@@ -1,0 +1,54 @@
+use Rattle.std.proofs.Common.{◌≡◌, ◌<◌, Some, length, slice_get, refl, sym, ap, subst, ◌∙◌, arith}
+use Rattle.std.proofs.lemmas.List.{length-set}
+use Rattle.std.proofs.lemmas.Option.{slice_get-get_or}
+use Rattle.file_model.specs.Functions.{next_runnable}
+use Rattle.nesc_session.specs.Session.{state_of}
+use Rattle.nesc_session.specs.Outcome.{lines_of}
+use Rattle.nesc_session.proofs.RoomLemmas.{sum-changes}
+use Rattle.nesc_session.proofs.SessionLemmas.{MissLaw-idle, MissLaw-serves, TakesTurn-serves, Ticks-takes, next-ready}
+use Rattle.nesc_session.proofs.session.Session.tick.Goals as goal
+
+pub returns-in_default-clause-step : goal.returns-in_default-clause-step
+returns-in_default-clause-step c =
+    let none = ap (λ all. next_runnable all c.args.self.now.last) (sym c.deref.ensures.value) ∙ sym c.in_default.ensures.next in
+    rw c.told.ensures (none, refl)
+
+pub returns-in_default-clause-law : goal.returns-in_default-clause-law
+returns-in_default-clause-law c =
+    let none = ap (λ all. next_runnable all c.args.self.now.last) (sym c.deref.ensures.value) ∙ sym c.in_default.ensures.next in
+    MissLaw-idle (state_of c.args.self.now) (lines_of c.told.result) none
+
+pub serve-requires : goal.serve-requires
+serve-requires c =
+    let next = ap (λ all. next_runnable all c.args.self.now.last) (sym c.deref.ensures.value) ∙ sym c.in-Some.ensures.next in
+    let within = subst (λ all. c.in-Some.index < length all) c.deref.ensures.value c.in-Some.ensures.within in
+    next-ready (state_of c.args.self.now) c.in-Some.index c.index_mut.result.now within c.index_mut.ensures.value next
+
+pub returns-clause-step : goal.returns-clause-step
+returns-clause-step c =
+    let next = ap (λ all. next_runnable all c.args.self.now.last) (sym c.deref.ensures.value) ∙ sym c.in-Some.ensures.next in
+    let within = subst (λ all. c.in-Some.index < length all) c.deref.ensures.value c.in-Some.ensures.within in
+    Ticks-takes (state_of c.args.self.now) (lines_of c.serve.result) _
+    (TakesTurn-serves (state_of c.args.self.now) c.in-Some.index c.index_mut.result.now within c.index_mut.ensures.value next c.serve.ensures.serves)
+
+pub returns-clause-law : goal.returns-clause-law
+returns-clause-law c =
+    let next = ap (λ all. next_runnable all c.args.self.now.last) (sym c.deref.ensures.value) ∙ sym c.in-Some.ensures.next in
+    let within = subst (λ all. c.in-Some.index < length all) c.deref.ensures.value c.in-Some.ensures.within in
+    MissLaw-serves (state_of c.args.self.now) c.in-Some.index c.index_mut.result.now within c.index_mut.ensures.value next c.serve.ensures.serves
+
+pub returns-clause-ready : goal.returns-clause-ready
+returns-clause-ready c =
+    let functions = c.args.self.now.functions.items in
+    let index = c.in-Some.index in
+    let within : index < length functions = subst (λ all. index < length all) c.deref.ensures.value c.in-Some.ensures.within in
+    let item : slice_get functions index ≡ Some c.index_mut.result.now = slice_get-get_or functions index c.index_mut.result.now within ∙ ap Some (sym c.index_mut.ensures.value) in
+    let before = c.requires in
+    let needs = c.serve.ensures.needs in
+    let less = sum-changes c.args.self.now.files.files c.serve.new.files.files functions index c.index_mut.result.now c.serve.new.self 0 0 c.serve.ensures.held item (omega (arith, needs)) in
+    let long = length-set functions index c.serve.new.self in
+    record {
+      room = omega (arith, less, before.room, c.serve.ensures.room);
+      last = omega (arith, long, within);
+      few = omega (arith, long, before.few);
+    }

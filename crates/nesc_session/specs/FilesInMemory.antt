@@ -1,0 +1,82 @@
+-- The files that are kept in memory, as the files that they are.
+use Rattle.std.specs.Prelude.{◌≡◌, ℕ, zero, suc, ◌+◌, ◌≤◌, ◌==◌, List, [], ◌∷◌, length, slice_get, Option, None, Some, IsSome, if◌then◌else◌, refl}
+use Rattle.std.specs.Coded.{Coded, code_by, coded×, coded_list, coded_ℕ}
+use Rattle.std.specs.FinMap as map
+use Rattle.std.specs.FinMap.{FinMap, entries, from_entries, get, insert}
+use Rattle.nesc_base.specs.declared.block.Block.{Block}
+use Rattle.nesc_base.specs.declared.host.HostAnswer.{HostAnswer}
+use Rattle.nesc_base.specs.declared.host.HostAnswer.TheVariants.{NoFile, Range}
+use Rattle.file_model.specs.Files.{Body, File, Files, HasName, IsUnnamed, most_files}
+use Rattle.file_model.specs.HostCommands.{IsOutside}
+use Rattle.nesc_session.specs.declared.files.FileEntry.{FileEntry}
+use Rattle.nesc_session.specs.declared.files.held.Place.{Place}
+use Rattle.nesc_session.specs.HeldBlocks.{place_cmp, block_code}
+
+-- what callers see: the files, and how many blocks more they can come to hold
+pub record FilesInMemory : Type 0 where
+  pub files : Files
+  pub room : ℕ
+
+-- a file is stored as the triple of its fields
+abbrev pub file_code : Coded File
+file_code =
+    code_by (List ℕ × (ℕ × Body)) (coded× (coded_list coded_ℕ) (coded× coded_ℕ (map.code coded_ℕ block_code))) (λ f. (f.name, (f.length, f.body))) (λ t. record { name = t.0; length = t.1.0; body = t.1.1 }) (λ _. refl)
+
+-- what callers see is stored as the pair of its fields
+abbrev pub files_code : Coded FilesInMemory
+files_code =
+    code_by (Files × ℕ) (coded× (map.code coded_ℕ file_code) coded_ℕ) (λ f. (f.files, f.room)) (λ p. record { files = p.0; room = p.1 }) (λ _. refl)
+
+-- those of all blocks that are the file's, by where they stand in it
+abbrev pub entries_in : ℕ → List (Place × Block) → List (ℕ × Block)
+entries_in n [] = []
+entries_in n (e ∷ es) = if e.0.file.0 == n then (e.0.block, e.1) ∷ entries_in n es else entries_in n es
+
+abbrev pub body_of : FinMap place_cmp Block → ℕ → Body
+body_of blocks n = from_entries (entries_in n (entries blocks))
+
+-- the file with a number
+abbrev pub file_of : FinMap place_cmp Block → ℕ → FileEntry → File
+file_of blocks n entry = record { name = entry.name; length = entry.length; body = body_of blocks n }
+
+-- the entry of the file with a number, the first of which is 1
+abbrev pub entry_at : List FileEntry → ℕ → Option FileEntry
+entry_at es zero = None
+entry_at es (suc k) = slice_get es k
+
+-- the files, numbered in their order from n on
+abbrev pub numbered_from : FinMap place_cmp Block → ℕ → List FileEntry → List (ℕ × File)
+numbered_from blocks n [] = []
+numbered_from blocks n (e ∷ es) = (n, file_of blocks n e) ∷ numbered_from blocks (n + 1) es
+
+abbrev pub files_of : List FileEntry → FinMap place_cmp Block → Files
+files_of es blocks = from_entries (numbered_from blocks 1 es)
+
+-- there are no more files than there may be, nor more than fit, and each block that is held is of one of them
+pub record IsInOrder (files : List FileEntry) (capacity : ℕ) (blocks : FinMap place_cmp Block) : Type 0 where
+  pub few : length files ≤ most_files
+  pub fits : most_files ≤ capacity
+  pub filed : (p : Place) → IsSome (get blocks p) → (1 ≤ p.file.0) × (p.file.0 ≤ length files)
+
+-- the file of the number has the name, and all its n blocks from v on lie below its length
+pub record IsInside (files : Files) (name : List ℕ) (number v n : ℕ) : Type 0 where
+  pub file : File
+  pub named : HasName files name number file
+  pub within : v + n ≤ file.length
+
+-- what a command on n blocks of a named file from v on is answered where it is refused
+abbrev pub Refuses : Files → List ℕ → ℕ → ℕ → HostAnswer → Type 0
+Refuses files name v n NoFile = IsUnnamed files name
+Refuses files name v n Range = IsOutside files name v n
+Refuses files name v n answer = ⊥
+
+-- the body with one block after another, from v on
+abbrev pub with_blocks : Body → ℕ → List Block → Body
+with_blocks body v [] = body
+with_blocks body v (block ∷ blocks) = with_blocks (insert body v block) (v + 1) blocks
+
+-- the blocks are the file's from v on now, whether it held blocks there or not
+pub record Writes (old : Files) (n v : ℕ) (blocks : List Block) (new : Files) : Type 0 where
+  pub file : File
+  pub stands : get old n ≡ Some file
+  pub result : new ≡ insert old n (record file { body = with_blocks file.body v blocks })

@@ -1,0 +1,148 @@
+-- All requests of a text fit, and there are no more guests than functions.
+use Rattle.std.proofs.Common.{◌≡◌, ℕ, ◌-◌, ◌≤◌, nat_le, zero, suc, ◌&&◌, Bool, true, false, if◌then◌else◌, codes, bytes_eq, List, [], ◌∷◌, ◌++◌, length, replicate, Option, Some, None, IfSome, subst, refl, ap, arith}
+use Rattle.std.proofs.lemmas.Bool.Decides.{nat_tests}
+use Rattle.std.proofs.lemmas.List.{length-append, length-replicate}
+use Rattle.std.specs.List.{AllByRecursion}
+use Rattle.text_kit.specs.Number.{number_of}
+use Rattle.toml.specs.Data.{Data, string, integer, float, boolean, datetime, array, table, Items, no_items, item}
+use Rattle.nesc_base.specs.Block.{zero_block}
+use Rattle.nesc_base.specs.BlockText.{block_of}
+use Rattle.nesc_base.specs.Requests.{Fits}
+use Rattle.nesc_base.specs.declared.host.HostCommand.{HostCommand}
+use Rattle.nesc_base.specs.declared.request.Request.{Request}
+use Rattle.script_lang.specs.declared.words.Separators.TheVariants.{Spaces}
+use Rattle.script_lang.specs.CommandsText.{up_to, number_to, from_one, count_of, blocks_of, read_of, write_of, request_of_words, request_of, is_trimmed, strings_of, each_of_items, guests_of_items, guests_at, enough_guests, guests_of}
+use Rattle.script_lang.specs.Left.{IsKept}
+use Rattle.script_lang.specs.Words.{each, words_of, ◌>>=◌}
+
+-- what holds after the second step, if it holds wherever that begins
+if_some-then : {A B : Type 0} (P : A → Type 0) (Q : B → Type 0) (x : Option A) (f : A → Option B) → IfSome x P → ((a : A) → P a → IfSome (f a) Q) → IfSome (x >>= f) Q
+if_some-then P Q None f p q = tt
+if_some-then P Q (Some a) f p q = q a p
+
+if_some-any : {A B : Type 0} (Q : B → Type 0) (x : Option A) (f : A → Option B) → ((a : A) → IfSome (f a) Q) → IfSome (x >>= f) Q
+if_some-any Q None f q = tt
+if_some-any Q (Some a) f q = q a
+
+if_some-when : {A : Type 0} (P : A → Type 0) (b : Bool) (x : Option A) → (b ≡ true → IfSome x P) → IfSome (if b then x else None) P
+if_some-when P true x p = p refl
+if_some-when P false x p = tt
+
+if_some-weaker : {A : Type 0} (P Q : A → Type 0) (x : Option A) → IfSome x P → ((a : A) → P a → Q a) → IfSome x Q
+if_some-weaker P Q None p q = tt
+if_some-weaker P Q (Some a) p q = q a p
+
+up_to-within : (most n : ℕ) → IfSome (up_to most n) (λ k. k ≤ most)
+up_to-within most n = if_some-when (λ k. k ≤ most) (nat_le n most) (Some n) (λ is. grind (arith, nat_tests))
+
+number-within : (most : ℕ) (text : List ℕ) → IfSome (number_to most text) (λ n. n ≤ most)
+number-within most text =
+    if_some-when (λ n. n ≤ most) (nat_le (length text) 10) (number_of text >>= up_to most) (λ is. if_some-any (λ n. n ≤ most) (number_of text) (up_to most) (up_to-within most))
+
+count-within : (text : List ℕ) → IfSome (count_of text) (λ n. n ≤ 64)
+count-within text =
+    if_some-then (λ n. n ≤ 64) (λ n. n ≤ 64) (number_to 64 text) from_one (number-within 64 text) (λ n within. if_some-when (λ k. k ≤ 64) (nat_le 1 n) (Some n) (λ is. within))
+
+-- `each` gives as many as it gets
+one_more : {B : Type 0} (n : ℕ) (y : Option B) (ys : Option (List B)) → IfSome ys (λ zs. length zs ≡ n) → IfSome (y >>= λ z. ys >>= λ zs. Some (z ∷ zs)) (λ zs. length zs ≡ suc n)
+one_more n None ys same = tt
+one_more n (Some z) None same = tt
+one_more n (Some z) (Some zs) same = ap suc same
+
+each-length : {A B : Type 0} (f : A → Option B) (xs : List A) → IfSome (each f xs) (λ ys. length ys ≡ length xs)
+each-length f [] = refl
+each-length f (x ∷ xs) = one_more (length xs) (f x) (each f xs) (each-length f xs)
+
+le_from_test : (b : Bool) (n : ℕ) → (b && nat_le n 64) ≡ true → n ≤ 64
+le_from_test true n is = grind (arith, nat_tests)
+le_from_test false n is = cc
+
+blocks-within : (texts : List (List ℕ)) → IfSome (blocks_of texts) (λ blocks. length blocks ≤ 64)
+blocks-within texts =
+    if_some-when (λ blocks. length blocks ≤ 64) (nat_le 1 (length texts) && nat_le (length texts) 64) (each block_of texts)
+    (λ is.
+    let few : length texts ≤ 64 = le_from_test (nat_le 1 (length texts)) (length texts) is in
+    if_some-weaker (λ blocks. length blocks ≡ length texts) (λ blocks. length blocks ≤ 64) (each block_of texts) (each-length block_of texts) (λ blocks same. omega arith))
+
+read-fits : (words : List (List ℕ)) → IfSome (read_of words) Fits
+read-fits [] = tt
+read-fits (v ∷ []) = tt
+read-fits (v ∷ n ∷ []) =
+    if_some-then (λ v. v ≤ 1048575) Fits (number_to 1048575 v) _ (number-within 1048575 v)
+    (λ v low. if_some-then (λ n. n ≤ 64) Fits (count_of n) _ (count-within n) (λ n few. let long = length-replicate n zero_block in omega arith))
+read-fits (v ∷ n ∷ x ∷ more) = tt
+
+write-fits : (words : List (List ℕ)) → IfSome (write_of words) Fits
+write-fits [] = tt
+write-fits (v ∷ texts) =
+    if_some-then (λ v. v ≤ 1048575) Fits (number_to 1048575 v) _ (number-within 1048575 v)
+    (λ v low. if_some-then (λ blocks. length blocks ≤ 64) Fits (blocks_of texts) _ (blocks-within texts) (λ blocks few. omega arith))
+
+either-fits : (b : Bool) (x y : Option Request) → IfSome x Fits → IfSome y Fits → IfSome (if b then x else y) Fits
+either-fits true x y p q = p
+either-fits false x y p q = q
+
+words-fit : (words : List (List ℕ)) → IfSome (request_of_words words) Fits
+words-fit [] = tt
+words-fit (first ∷ words) =
+    either-fits (bytes_eq first (codes "r")) (read_of words) (if bytes_eq first (codes "w") then write_of words else None) (read-fits words)
+    (either-fits (bytes_eq first (codes "w")) (write_of words) None (write-fits words) tt)
+
+-- a request that is read fits
+pub request-fits : (text : List ℕ) → IfSome (request_of text) Fits
+request-fits text = if_some-when Fits (is_trimmed text) (request_of_words (words_of Spaces text)) (λ is. words-fit (words_of Spaces text))
+
+-- so do all that are read
+both : {B : Type 0} (P : B → Type 0) (y : Option B) (ys : Option (List B)) → IfSome y P → IfSome ys (AllByRecursion P) → IfSome (y >>= λ z. ys >>= λ zs. Some (z ∷ zs)) (AllByRecursion P)
+both P None ys p q = tt
+both P (Some z) None p q = tt
+both P (Some z) (Some zs) p q = (p, q)
+
+each-all : {A B : Type 0} (P : B → Type 0) (f : A → Option B) (xs : List A) → ((x : A) → IfSome (f x) P) → IfSome (each f xs) (AllByRecursion P)
+each-all P f [] p = tt
+each-all P f (x ∷ xs) p = both P (f x) (each f xs) (p x) (each-all P f xs p)
+
+requests-fit : (items : Items) → IfSome (each_of_items request_of items) (AllByRecursion Fits)
+requests-fit items = if_some-any (AllByRecursion Fits) (strings_of items) (each request_of) (λ texts. each-all Fits request_of texts request-fits)
+
+guests-fit : (items : Items) → IfSome (guests_of_items items) (AllByRecursion (AllByRecursion Fits))
+guests-fit no_items = tt
+guests-fit (item (array items) more) = both (AllByRecursion Fits) (each_of_items request_of items) (guests_of_items more) (requests-fit items) (guests-fit more)
+guests-fit (item (string text) more) = tt
+guests-fit (item (integer z) more) = tt
+guests-fit (item (float y) more) = tt
+guests-fit (item (boolean b) more) = tt
+guests-fit (item (datetime dt) more) = tt
+guests-fit (item (table entries) more) = tt
+
+guests_at-fit : (value : Option Data) → IfSome (guests_at value) (AllByRecursion (AllByRecursion Fits))
+guests_at-fit None = tt
+guests_at-fit (Some (array items)) = guests-fit items
+guests_at-fit (Some (string text)) = tt
+guests_at-fit (Some (integer z)) = tt
+guests_at-fit (Some (float y)) = tt
+guests_at-fit (Some (boolean b)) = tt
+guests_at-fit (Some (datetime dt)) = tt
+guests_at-fit (Some (table entries)) = tt
+
+-- guests with no requests behind them change nothing
+with_idle : (n : ℕ) (guests : List (List Request)) → AllByRecursion (AllByRecursion Fits) guests → AllByRecursion (AllByRecursion Fits) (guests ++ replicate n [])
+with_idle zero [] fit = tt
+with_idle (suc n) [] fit = (tt, with_idle n [] tt)
+with_idle n (guest ∷ guests) fit = (fit.0, with_idle n guests fit.1)
+
+enough-kept : (host : List HostCommand) (guests : List (List Request)) → AllByRecursion (AllByRecursion Fits) guests
+    → IfSome (enough_guests guests) (λ all. IsKept (record { host = host; guests = all }))
+enough-kept host guests fit =
+    if_some-when (λ all. IsKept (record { host = host; guests = all })) (nat_le (length guests) 1) (Some (guests ++ replicate (1 - length guests) []))
+    (λ is.
+    let few : length guests ≤ 1 = grind (arith, nat_tests) in
+    let idle = length-replicate {A = List Request} (1 - length guests) [] in
+    let all = length-append guests (replicate (1 - length guests) []) in
+    record { fit = with_idle (1 - length guests) guests fit; few = omega arith })
+
+-- the guests of a text are kept as they are
+pub guests-kept : (value : Option Data) (host : List HostCommand) (guests : List (List Request)) → guests_of value ≡ Some guests → IsKept (record { host = host; guests = guests })
+guests-kept value host guests gives =
+    subst (λ (found : Option (List (List Request))). IfSome found (λ all. IsKept (record { host = host; guests = all }))) gives
+    (if_some-then (AllByRecursion (AllByRecursion Fits)) (λ all. IsKept (record { host = host; guests = all })) (guests_at value) enough_guests (guests_at-fit value) (enough-kept host))

@@ -1,0 +1,6 @@
+pub mod EachLemmas
+pub mod FitLemmas
+pub mod LeftLemmas
+pub mod ScriptLemmas
+pub mod StepLemmas
+pub mod WordLemmas

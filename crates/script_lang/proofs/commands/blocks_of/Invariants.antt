@@ -1,0 +1,12 @@
+use Rattle.std.proofs.Common.{◌≡◌, drop, length, map, take}
+use Rattle.nesc_base.specs.BlockText.{block_of}
+use Rattle.script_lang.specs.Words.{each}
+use Rattle.script_lang.proofs.EachLemmas.{onto}
+use Rattle.script_lang.proofs.commands.blocks_of.Given as goal
+
+-- the blocks so far and those of the texts that are left are those of all texts
+abbrev pub invariant-loop-k : goal.invariant-loop-k
+invariant-loop-k l = record {
+  room : length l.blocks ≡ length l.texts;
+  done : onto (take l.k l.blocks) (each block_of (map (λ text. text.now) (drop l.k l.texts))) ≡ each block_of (map (λ text. text.now) l.texts);
+}

@@ -1,0 +1,9 @@
+use Rattle.std.proofs.Common.{◌≡◌, drop, map}
+use Rattle.toml.specs.View.{items_view}
+use Rattle.script_lang.specs.CommandsText.{guests_of_items}
+use Rattle.script_lang.proofs.EachLemmas.{onto}
+use Rattle.script_lang.proofs.script.read_guests.Given as goal
+
+-- the guests so far and those of the values that are left are those of all values
+abbrev pub invariant-loop-value : goal.invariant-loop-value
+invariant-loop-value l = onto (map (λ queue. queue.items) l.guests.items) (guests_of_items (items_view (drop l.value-index l.values))) ≡ guests_of_items (items_view l.values)

@@ -1,0 +1,17 @@
+-- What the parts of the texts are, as they are read.
+use Rattle.std.specs.Prelude.{ℕ, List, [], ◌∷◌, Option, None}
+use Rattle.toml.specs.Data.{Data, string}
+use Rattle.nesc_base.specs.declared.word.Word.{Word}
+use Rattle.script_lang.specs.declared.schedule.Steps.{Steps}
+use Rattle.script_lang.specs.declared.schedule.Steps.TheVariants.{One, Ticks}
+use Rattle.script_lang.specs.ScheduleText.{ticks}
+
+-- the steps that a word of a schedule stands for
+abbrev pub steps_in : Steps → List Word
+steps_in (One word) = word ∷ []
+steps_in (Ticks n) = ticks n
+
+-- what a value is that has to be a string
+abbrev pub said_by : {C : Type 0} → (List ℕ → Option C) → Data → Option C
+said_by said (string text) = said text
+said_by said value = None

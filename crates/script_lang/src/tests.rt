@@ -1,0 +1,68 @@
+use crate::{InputFault, read_commands, read_schedule};
+use nesc_base::{FnNo, HostCommand, Request, Word};
+use std::test::Fail;
+
+#[test]
+fn commands(rt: HostRuntime) -> Result<(), Fail> {
+    let text =
+        b"host = [\"attach 01  vm\"]\nguest = [[\"r 5 2\", \"w 1048575 z 0123456789abcdef\"]]\n";
+    let mut commands = read_commands(rt.alloc(), text).ok().ok_or("memory")?;
+    assert_eq!(rt; (commands.guests(), commands.blocks()), (1, 4));
+    let attach = commands.take_host();
+    assert!(rt;
+        matches!(&attach, Some(HostCommand::Attach { f: FnNo(1), name }) if name.bytes() == b"vm".as_slice())
+    );
+    let read = commands.take_guest(FnNo(1));
+    assert!(rt; matches!(&read, Some(Request::Read { v: 5, into }) if into.len() == 2));
+    assert!(rt;
+        commands.has_next(FnNo(1)) && !commands.has_next(FnNo(0)) && !commands.has_next(FnNo(2))
+    );
+    let write = commands.take_guest(FnNo(1));
+    assert!(rt;
+        matches!(&write, Some(Request::Write { v: 1_048_575, from }) if from.len() == 2 && from.get(1).0[..3] == [0x01, 0x23, 0x45])
+    );
+    assert!(rt; commands.take_guest(FnNo(1)).is_none() && commands.take_host().is_none());
+    for text in [
+        b"host = [\"attach 0 vm\"]".as_slice(),
+        b"host = [\"attach 2 vm\"]",
+        b"guest = [[], []]",
+        b"guest = [\"r 0 1\"]",
+        b"guest = [[\"r 0 0\"]]",
+        b"guest = [[\"r 0 65\"]]",
+        b"guest = [[\"r 1048576 1\"]]",
+        b"guest = [[\"r 00000000000 1\"]]",
+        b"guest = [[\"r 0 1 \"]]",
+        b"guest = [[\"w 0\"]]",
+        b"guest = [[\"w 0 0123\"]]",
+        b"guests = [[]]",
+    ] {
+        assert!(rt; matches!(read_commands(rt.alloc(), text), Err(InputFault::Refused)));
+    }
+    Ok(())
+}
+
+#[test]
+fn schedules(rt: HostRuntime) -> Result<(), Fail> {
+    let (g, i) = (Word::G(FnNo(1)), Word::I(FnNo(1)));
+    let mut schedule = read_schedule(rt.alloc(), b"h\tt*3 g01\r\ni1 t")
+        .ok()
+        .ok_or("memory")?;
+    for word in [Word::H, Word::T, Word::T, Word::T, g, i, Word::T] {
+        assert!(rt; schedule.word() == Some(word));
+    }
+    assert!(rt; schedule.word().is_none());
+    for text in [
+        b"t*0".as_slice(),
+        b"t*",
+        b"t*00000000001",
+        b"t*1048577",
+        b"t*9999999999 h",
+        b"g2",
+        b"g",
+        b"i0",
+        b"hh",
+    ] {
+        assert!(rt; matches!(read_schedule(rt.alloc(), text), Err(InputFault::Refused)));
+    }
+    Ok(())
+}
