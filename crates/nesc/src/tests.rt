@@ -1,4 +1,4 @@
-use nesc_fakes::{MemSink, MemSource};
+use nesc_fakes::{MemSink, MemSource, SlowSink, SlowSource};
 use nesc_monitor::{Status, run};
 use std::alloc::{AllocError, Global};
 use std::test::Fail;
@@ -35,6 +35,182 @@ fn tell(alloc: Global, words: &[&str], commands: &str, schedule: &str) -> Result
         &mut err,
     );
     Ok(Told { status, out, err })
+}
+
+const GUEST_COMMANDS: &str = r#"host = ["create a 10", "attach 1 a"]
+    guest = [["w 3 1111111111111111", "r 2 3"]]"#;
+
+const GUEST_SCHEDULE: &str = "h h g1 g1 t i1 t t t t";
+
+const GUEST_TRACE: &str =
+    "h ok\nh ok\ng 1 1\ng 1 2\nt 1 3 miss unmapped 0\ni 1 hold 1\nt 1 3 walk 0\nr 1 1 ok 1\nt 1 2 hole 0\nt 1 3 walk 0\nt 1 4 hole 0\nr 1 2 ok 3 z 1111111111111111 z\ndone 10\n";
+
+/// The status of `run` over sources and a sink of which these calls fail, and what the sinks have taken.
+fn tell_failing(alloc: Global, schedule: &str, fails: [&[u64]; 3]) -> Result<Told, AllocError> {
+    let [commands_fail, schedule_fail, out_fail] = fails;
+    let mut commands = MemSource::new(
+        Vec::from_slice(alloc, GUEST_COMMANDS.as_bytes())?,
+        Vec::from_slice(alloc, commands_fail)?,
+    );
+    let mut schedule = MemSource::new(
+        Vec::from_slice(alloc, schedule.as_bytes())?,
+        Vec::from_slice(alloc, schedule_fail)?,
+    );
+    let mut out = MemSink::new(alloc, Vec::from_slice(alloc, out_fail)?);
+    let mut err = MemSink::new(alloc, Vec::new(alloc));
+    let mut words = Vec::new(alloc);
+    words.push(String::from_str(alloc, "run")?)?;
+    let status = run(
+        alloc,
+        words.as_slice(),
+        &mut commands,
+        &mut schedule,
+        &mut out,
+        &mut err,
+    );
+    Ok(Told { status, out, err })
+}
+
+#[test]
+fn each_failure_is_told(rt: HostRuntime) -> Result<(), Fail> {
+    let alloc = rt.alloc();
+    let none: &[u64] = &[];
+    for (fails, status, err) in [
+        ([none, none, none], Status::Done, ""),
+        ([&[1], none, none], Status::Read, "nesc: read\n"),
+        ([&[2], none, none], Status::Read, "nesc: read\n"),
+        ([none, &[1], none], Status::Read, "nesc: read\n"),
+        ([none, &[2], none], Status::Read, "nesc: read\n"),
+        ([none, none, &[1]], Status::Write, "nesc: write\n"),
+    ] {
+        let told = tell_failing(alloc, GUEST_SCHEDULE, fails)?;
+        let out = if status == Status::Done {
+            GUEST_TRACE
+        } else {
+            ""
+        };
+        assert_eq!(rt; told.status, status);
+        assert_eq!(rt; told.out.bytes(), out.as_bytes());
+        assert_eq!(rt; told.err.bytes(), err.as_bytes());
+    }
+    // A trace of many pieces, cut short at the third.
+    let told = tell_failing(alloc, "h h t*100000", [none, none, &[3]])?;
+    assert_eq!(rt; told.status, Status::Write);
+    let front = told.out.bytes();
+    assert!(rt; front.starts_with(b"h ok\nh ok\nt idle\nt idle\n"));
+    assert!(rt; front.len() > 1000 && front.len() < 700_000);
+    Ok(())
+}
+
+#[test]
+fn pieces_of_one_byte_give_the_same(rt: HostRuntime) -> Result<(), Fail> {
+    let alloc = rt.alloc();
+    let mut words = Vec::new(alloc);
+    words.push(String::from_str(alloc, "run")?)?;
+    let mut commands = SlowSource::new(Vec::from_slice(alloc, GUEST_COMMANDS.as_bytes())?, 1);
+    let mut schedule = SlowSource::new(Vec::from_slice(alloc, GUEST_SCHEDULE.as_bytes())?, 1);
+    let mut out = SlowSink::new(alloc, 1);
+    let mut err = SlowSink::new(alloc, 1);
+    let status = run(
+        alloc,
+        words.as_slice(),
+        &mut commands,
+        &mut schedule,
+        &mut out,
+        &mut err,
+    );
+    assert_eq!(rt; status, Status::Done);
+    assert_eq!(rt; out.bytes(), GUEST_TRACE.as_bytes());
+    assert!(rt; err.bytes().is_empty());
+    Ok(())
+}
+
+/// So many times one text, between two others.
+fn times(alloc: Global, front: &str, piece: &str, n: u32, end: &str) -> Result<String, AllocError> {
+    let mut text = String::from_str(alloc, front)?;
+    for _ in 0..n {
+        text.push_str(piece)?;
+    }
+    text.push_str(end)?;
+    Ok(text)
+}
+
+#[test]
+fn each_limit_has_two_sides(rt: HostRuntime) -> Result<(), Fail> {
+    let alloc = rt.alloc();
+    let name_24 = "host = ['create abcdefghijklmnopqrstuvwx 0']";
+    let name_25 = "host = ['create abcdefghijklmnopqrstuvwxy 0']";
+    for (accepted, refused) in [
+        (name_24, name_25),
+        ("host = ['create a 1048576']", "host = ['create a 1048577']"),
+        (
+            "host = ['create a 0000000001']",
+            "host = ['create a 00000000001']",
+        ),
+        ("host = ['get a 1048575 1']", "host = ['get a 1048576 1']"),
+        ("host = ['get a 0 1']", "host = ['get a 0 0']"),
+        ("host = ['get a 0 64']", "host = ['get a 0 65']"),
+        (
+            "host = ['put a 0 1111111111111111']",
+            "host = ['put a 0 111111111111111']",
+        ),
+        ("host = ['put  a 0 z']", "host = ['put a 0 z  ']"),
+        ("host = ['attach 1 a']", "host = ['attach 2 a']"),
+        ("host = []", "host = ['']"),
+        ("guest = []", "guests = []"),
+        ("guest = [[]]", "guest = ['r 0 1']"),
+        ("guest = [['r 1048575 64']]", "guest = [['r 1048576 1']]"),
+        ("guest = [['w 0 z']]", "guest = [['w 0']]"),
+        ("guest = [[]]", "guest = [[], []]"),
+        ("", "host = 'create a 1'"),
+        ("", "host = [1]"),
+        ("", "guest = [[1]]"),
+        ("", "host = [['create a 1']]"),
+    ] {
+        let told = tell(alloc, &["run"], accepted, "")?;
+        assert_eq!(rt; told.status, Status::Done, "at {accepted:?}");
+        let told = tell(alloc, &["run"], refused, "")?;
+        assert_eq!(rt; told.status, Status::Input, "at {refused:?}");
+        assert_eq!(rt; told.err.bytes(), b"nesc: input commands\n".as_slice());
+    }
+    for (accepted, refused) in [
+        ("t*1", "t*0"),
+        ("t*0000000001", "t*00000000001"),
+        ("g1", "g2"),
+        ("i01", "i0"),
+        ("t*1048576", "t*1048577"),
+    ] {
+        let told = tell(alloc, &["run"], "", accepted)?;
+        assert_eq!(rt; told.status, Status::Done, "at {accepted:?}");
+        let told = tell(alloc, &["run"], "", refused)?;
+        assert_eq!(rt; told.status, Status::Input, "at {refused:?}");
+        assert_eq!(rt; told.err.bytes(), b"nesc: input schedule\n".as_slice());
+    }
+    Ok(())
+}
+
+#[test]
+fn large_texts_have_limits(rt: HostRuntime) -> Result<(), Fail> {
+    let alloc = rt.alloc();
+    for (n, status) in [(64, Status::Done), (65, Status::Input)] {
+        let commands = times(alloc, "host = ['put a 0", " z", n, "']")?;
+        let told = tell(alloc, &["run"], commands.as_str(), "")?;
+        assert_eq!(rt; told.status, status);
+    }
+    for (end, status) in [("", Status::Done), (", 'r 0 1'", Status::Input)] {
+        let commands = times(alloc, "guest = [['r 0 64'", ", 'r 0 64'", 4095, end)?;
+        let commands = times(alloc, commands.as_str(), "", 0, "]]")?;
+        let told = tell(alloc, &["run"], commands.as_str(), "")?;
+        assert_eq!(rt; told.status, status);
+    }
+    for (n, status) in [(1_048_576, Status::Done), (1_048_577, Status::Input)] {
+        let text = times(alloc, "", "                ", n, "")?;
+        let told = tell(alloc, &["run"], "", text.as_str())?;
+        assert_eq!(rt; told.status, status);
+        let told = tell(alloc, &["run"], text.as_str(), "")?;
+        assert_eq!(rt; told.status, status);
+    }
+    Ok(())
 }
 
 #[test]

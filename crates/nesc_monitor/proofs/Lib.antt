@@ -1,4 +1,5 @@
 pub mod EndingLemmas
+pub mod ReadingLemmas
 pub mod RunLemmas
 pub mod StepsLemmas
 pub mod TellLemmas

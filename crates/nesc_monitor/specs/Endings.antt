@@ -90,6 +90,11 @@ WritesFront (Some commands) (Some schedule) (Some before) after =
     (output : List ℕ) × IsTrace commands schedule output × (n : ℕ) × (n ≤ length output) × (after ≡ Some (before ++ take n output))
 WritesFront commands schedule before after = Unit {0}
 
+-- where the sources tell their texts, both are accepted
+abbrev pub AreAccepted : Option (List ℕ) → Option (List ℕ) → Type 0
+AreAccepted (Some commands) (Some schedule) = ((script : Script) × IsCommandsText commands script) × ((words : List Word) × (schedule_of schedule ≡ Some words))
+AreAccepted commands schedule = Unit {0}
+
 -- Where the sources tell their texts: the commands file is refused. One that is too long is so while it is read, and
 -- another only once the schedule is read too.
 abbrev pub IsCommandsRefused : Option (List ℕ) → Option (List ℕ) → Type 0
@@ -115,10 +120,10 @@ IsTurnedAway other commands schedule = ⊥
 -- What an ending says of the words, of the two sources and of the sink.
 abbrev pub Comes : Ending → List (List ℕ) → Watched → Watched → Watched → Type 0
 Comes ending.Done words commands schedule out =
-    (is_run words ≡ true) × WritesTrace commands.before schedule.before out.before out.after × IsReadOut commands.before commands.after × IsReadOut schedule.before schedule.after
+    (is_run words ≡ true) × AreAccepted commands.before schedule.before × WritesTrace commands.before schedule.before out.before out.after × IsReadOut commands.before commands.after × IsReadOut schedule.before schedule.after
 Comes ending.Words words commands schedule out = (is_run words ≡ false) × (out.after ≡ out.before)
 Comes ending.Write words commands schedule out =
-    (is_run words ≡ true) × HasFailed out × WritesFront commands.before schedule.before out.before out.after
+    (is_run words ≡ true) × AreAccepted commands.before schedule.before × HasFailed out × WritesFront commands.before schedule.before out.before out.after
 Comes other words commands schedule out = (is_run words ≡ true) × IsTurnedAway other commands schedule × (out.after ≡ out.before)
 
 -- what the steps can come to
@@ -132,3 +137,33 @@ IsOfSteps other = ⊥
 -- it had, where it tells that and did not fail
 abbrev pub IsToldOn : Option (List ℕ) → Option (List ℕ) → ℕ → ℕ → Ending → Type 0
 IsToldOn before after faults_before faults_after ending = ¬ Rose faults_before faults_after → Appends before after (error_line ending)
+
+-- What follows of it, where the texts are known
+
+-- the sources tell their texts, and both are accepted
+abbrev pub AreKnownAccepted : Option (List ℕ) → Option (List ℕ) → Type 0
+AreKnownAccepted (Some commands) (Some schedule) = AreAccepted (Some commands) (Some schedule)
+AreKnownAccepted commands schedule = ⊥
+
+-- the sources tell their texts, and one of them is refused
+abbrev pub AreKnownRefused : Option (List ℕ) → Option (List ℕ) → Type 0
+AreKnownRefused (Some commands) (Some schedule) = ((script : Script) → ¬ IsCommandsText commands script) ⊎ (schedule_of schedule ≡ None)
+AreKnownRefused commands schedule = ⊥
+
+-- it was carried out to its end, or there was no memory and a sink that had these bytes took none
+abbrev pub IsCarriedOut : Status → Option (List ℕ) → Option (List ℕ) → Type 0
+IsCarriedOut Done before after = Unit {0}
+IsCarriedOut Memory before after = after ≡ before
+IsCarriedOut status before after = ⊥
+
+-- a text was refused, or there was no memory
+abbrev pub IsTurnedDown : Status → Type 0
+IsTurnedDown Input = Unit {0}
+IsTurnedDown Memory = Unit {0}
+IsTurnedDown status = ⊥
+
+-- it comes before the first step
+abbrev pub IsEarly : Status → Type 0
+IsEarly Done = ⊥
+IsEarly Write = ⊥
+IsEarly status = Unit {0}

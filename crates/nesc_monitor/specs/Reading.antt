@@ -1,5 +1,5 @@
 -- What is read of a source.
-use Rattle.std.specs.Prelude.{◌≡◌, ℕ, ◌<◌, ◌++◌, List, [], length, Option, Some, None}
+use Rattle.std.specs.Prelude.{◌≡◌, ℕ, ◌+◌, ◌<◌, ◌≤◌, ◌++◌, List, [], drop, length, Option, Some, None}
 use Rattle.script_lang.specs.Limits.{most_bytes}
 
 -- where the source tells what it has left: that was the text, and nothing is left
@@ -16,3 +16,13 @@ GivesTooMany (Some bytes) = most_bytes < length bytes
 abbrev pub GivesFront : List ℕ → Option (List ℕ) → Option (List ℕ) → Type 0
 GivesFront front None new = Unit {0}
 GivesFront front (Some bytes) new = (rest : List ℕ) × (bytes ≡ front ++ rest) × (new ≡ Some rest)
+
+-- where the source tells what it has left: of that only the front was taken, at most one byte more than a text may have
+abbrev pub TakesFront : Option (List ℕ) → Option (List ℕ) → Type 0
+TakesFront None new = Unit {0}
+TakesFront (Some bytes) new = (n : ℕ) × (n ≤ most_bytes + 1) × (new ≡ Some (drop n bytes))
+
+-- so it is of two sources that did not fail
+pub record TakeFronts (one other : Option (List ℕ)) (one_after other_after : Option (List ℕ)) (one_failed other_failed : Type 0) : Type 0 where
+  pub first : ¬ one_failed → TakesFront one one_after
+  pub second : ¬ other_failed → TakesFront other other_after

@@ -1,6 +1,6 @@
 ghost use Rattle.std.specs.Prelude.{◌≡◌, ◌<◌, ◌≤◌, [], length, IsErrOf, IfOk, OnOk};
-ghost use Rattle.nesc_base.specs.Fault.{HasCause};
-ghost use Rattle.nesc_monitor.specs.Reading.{GivesAll, GivesTooMany};
+ghost use Rattle.nesc_base.specs.Fault.{HasCause, Rose};
+ghost use Rattle.nesc_monitor.specs.Reading.{GivesAll, GivesTooMany, TakesFront};
 
 use nesc_base::{ReadFault, Source};
 use script_lang::MOST_BYTES;
@@ -45,6 +45,7 @@ pub fn read_text<S: Source>(alloc: Global, source: &mut S) -> Result<Vec<u8>, Re
     ensures whole { IfOk result (λ text. GivesAll text.items (S.left source.old) (S.left source.new)) }
     ensures within { IfOk result (λ text. length text.items ≤ 16777216) }
     ensures too_long { result ≡ Err ReadStop.TooLong → GivesTooMany (S.left source.old) }
+    ensures taken { ¬ Rose (S.faults source.old) (S.faults source.new) → TakesFront (S.left source.old) (S.left source.new) }
     ensures cause { HasCause (S.faults source.old) (S.faults source.new) (result ≡ Err ReadStop.Fault) }
 {
     let mut chunk = [0; CHUNK_BYTES];

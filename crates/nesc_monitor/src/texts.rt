@@ -2,7 +2,8 @@ ghost use Rattle.std.specs.Prelude.{◌≡◌, ◌≤◌, Some, length, IfErr, I
 ghost use Rattle.script_lang.specs.CommandsText.{IsCommandsText, blocks_in_all};
 ghost use Rattle.nesc_monitor.specs.Endings.{IsReadOut, IsTurnedAway};
 ghost use Rattle.script_lang.specs.Limits.{most_blocks};
-ghost use Rattle.nesc_monitor.specs.Reading.{GivesAll};
+ghost use Rattle.nesc_base.specs.Fault.{Rose};
+ghost use Rattle.nesc_monitor.specs.Reading.{GivesAll, TakeFronts};
 ghost use Rattle.script_lang.specs.ScheduleText.{schedule_of};
 ghost use Rattle.nesc_monitor.specs.Texts.{IsRefusal, IsTold};
 
@@ -34,6 +35,8 @@ fn read_texts<S: Source>(alloc: Global, commands: &mut S, schedule: &mut S) -> R
     ensures turned_away { IfErr result (λ ending. IsTurnedAway ending
         (record { before = S.left commands.old; after = S.left commands.new; faults_before = S.faults commands.old; faults_after = S.faults commands.new })
         (record { before = S.left schedule.old; after = S.left schedule.new; faults_before = S.faults schedule.old; faults_after = S.faults schedule.new })) }
+    ensures taken { TakeFronts (S.left commands.old) (S.left schedule.old) (S.left commands.new) (S.left schedule.new)
+        (Rose (S.faults commands.old) (S.faults commands.new)) (Rose (S.faults schedule.old) (S.faults schedule.new)) }
     ensures never_fall { (S.faults commands.old ≤ S.faults commands.new) × (S.faults schedule.old ≤ S.faults schedule.new) }
 {
     let commands = match read_text(alloc, commands) {
@@ -83,6 +86,8 @@ pub fn read_script<S: Source>(
     ensures turned_away { IfErr result (λ ending. IsTurnedAway ending
         (record { before = S.left commands.old; after = S.left commands.new; faults_before = S.faults commands.old; faults_after = S.faults commands.new })
         (record { before = S.left schedule.old; after = S.left schedule.new; faults_before = S.faults schedule.old; faults_after = S.faults schedule.new })) }
+    ensures taken { TakeFronts (S.left commands.old) (S.left schedule.old) (S.left commands.new) (S.left schedule.new)
+        (Rose (S.faults commands.old) (S.faults commands.new)) (Rose (S.faults schedule.old) (S.faults schedule.new)) }
     ensures never_fall { (S.faults commands.old ≤ S.faults commands.new) × (S.faults schedule.old ≤ S.faults schedule.new) }
 {
     match read_texts(alloc, commands, schedule) {
