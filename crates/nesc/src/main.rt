@@ -2,16 +2,12 @@
 //! streams to `nesc_monitor::run`, and exits with the status that it answers.
 #![tactic(auto)]
 
-mod file_source;
-mod std_sink;
-
-use file_source::FileSource;
 use nesc_base::Sink;
+use nesc_host_os::{FileSource, StdSink};
 use nesc_monitor::{Status, run};
 use std::process::ExitCode;
 use std::rt::Env;
 use std::{env, io};
-use std_sink::StdSink;
 
 /// The words behind the program's name. An `Err` says that there is no memory for them.
 fn words_of(rt: &(impl Env + AllocGlobal)) -> io::Result<Vec<String>> {

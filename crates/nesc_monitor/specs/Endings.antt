@@ -12,6 +12,7 @@ use Rattle.file_model.specs.declared.line.Line.{Line}
 use Rattle.script_lang.specs.CommandsText.{IsCommandsText}
 use Rattle.script_lang.specs.Limits.{most_bytes, most_queued}
 use Rattle.script_lang.specs.ScheduleText.{schedule_of}
+use Rattle.nesc_monitor.specs.Reading.{TakesFront}
 use Rattle.nesc_monitor.specs.declared.ending.Ending.{Ending}
 use Rattle.nesc_monitor.specs.declared.ending.Ending.TheVariants as ending
 use Rattle.nesc_monitor.specs.declared.ending.Status.{Status}
@@ -58,9 +59,17 @@ pub record Watched : Type 0 where
   pub faults_before : ℕ
   pub faults_after : ℕ
 
+-- such a thing over a call, by what it tells of its bytes and its failures
+abbrev pub watch : {T : Type 0} → (T → Option (List ℕ)) → (T → ℕ) → T → T → Watched
+watch bytes faults old new = record { before = bytes old; after = bytes new; faults_before = faults old; faults_after = faults new }
+
 -- it failed in the call
 abbrev pub HasFailed : Watched → Type 0
 HasFailed watched = Rose watched.faults_before watched.faults_after
+
+-- where a source told what it had left, and did not fail: only the front of that was taken
+abbrev pub IsTakenFromFront : Watched → Type 0
+IsTakenFromFront source = ¬ HasFailed source → TakesFront source.before source.after
 
 -- where a source told what it had left, nothing is left
 abbrev pub IsReadOut : Option (List ℕ) → Option (List ℕ) → Type 0

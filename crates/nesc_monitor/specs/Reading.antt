@@ -21,8 +21,3 @@ GivesFront front (Some bytes) new = (rest : List ℕ) × (bytes ≡ front ++ res
 abbrev pub TakesFront : Option (List ℕ) → Option (List ℕ) → Type 0
 TakesFront None new = Unit {0}
 TakesFront (Some bytes) new = (n : ℕ) × (n ≤ most_bytes + 1) × (new ≡ Some (drop n bytes))
-
--- so it is of two sources that did not fail
-pub record TakeFronts (one other : Option (List ℕ)) (one_after other_after : Option (List ℕ)) (one_failed other_failed : Type 0) : Type 0 where
-  pub first : ¬ one_failed → TakesFront one one_after
-  pub second : ¬ other_failed → TakesFront other other_after

@@ -1,10 +1,9 @@
 ghost use Rattle.std.specs.Prelude.{◌≡◌, ◌≤◌, ◌↔◌, ◌⊎◌, true, [], map, false, string_bytes, IsErr, OnOk};
-ghost use Rattle.nesc_base.specs.Fault.{HasCause, Rose};
+ghost use Rattle.nesc_base.specs.Fault.{HasCause};
 ghost use Rattle.text_kit.specs.Buffered.{lent_name, pending_of, sink_of};
 ghost use Rattle.file_model.specs.State.{start};
 ghost use Rattle.script_lang.specs.CommandsText.{blocks_in_all};
-ghost use Rattle.nesc_monitor.specs.Reading.{TakeFronts};
-ghost use Rattle.nesc_monitor.specs.Endings.{AreKnownAccepted, AreKnownRefused, Comes, IsCarriedOut, IsEarly, IsOfSteps, IsToldOn, IsTurnedDown, WritesTrace, is_run, status_of};
+ghost use Rattle.nesc_monitor.specs.Endings.{AreKnownAccepted, AreKnownRefused, Comes, HasFailed, IsCarriedOut, IsEarly, IsOfSteps, IsTakenFromFront, IsToldOn, IsTurnedDown, WritesTrace, is_run, status_of, watch};
 ghost use Rattle.script_lang.specs.Limits.{most_blocks, most_queued};
 ghost use Rattle.nesc_session.specs.Session.{IsReady, state_of};
 ghost use Rattle.nesc_monitor.specs.Steps.{TellsAll, TellsFront};
@@ -98,11 +97,10 @@ fn carry_out<S: Source, K: Sink>(
     out: &mut K,
 ) -> Ending
     ensures comes { Comes result (map string_bytes words.now)
-        (record { before = S.left commands.old; after = S.left commands.new; faults_before = S.faults commands.old; faults_after = S.faults commands.new })
-        (record { before = S.left schedule.old; after = S.left schedule.new; faults_before = S.faults schedule.old; faults_after = S.faults schedule.new })
-        (record { before = K.taken out.old; after = K.taken out.new; faults_before = K.faults out.old; faults_after = K.faults out.new }) }
-    ensures taken { TakeFronts (S.left commands.old) (S.left schedule.old) (S.left commands.new) (S.left schedule.new)
-        (Rose (S.faults commands.old) (S.faults commands.new)) (Rose (S.faults schedule.old) (S.faults schedule.new)) }
+        (watch S.left S.faults commands.old commands.new)
+        (watch S.left S.faults schedule.old schedule.new)
+        (watch K.taken K.faults out.old out.new) }
+    ensures taken { IsTakenFromFront (watch S.left S.faults commands.old commands.new) × IsTakenFromFront (watch S.left S.faults schedule.old schedule.new) }
     ensures never_fall { (S.faults commands.old ≤ S.faults commands.new) × (S.faults schedule.old ≤ S.faults schedule.new) × (K.faults out.old ≤ K.faults out.new) }
 {
     if !is_run(words) {
@@ -133,24 +131,23 @@ pub fn run<S: Source, K: Sink, E: Sink>(
 
     // Where nothing fails and there is memory, texts that are accepted are carried out, and others are turned down.
     ensures complete { is_run (map string_bytes words.now) ≡ true → AreKnownAccepted (S.left commands.old) (S.left schedule.old)
-        → ¬ Rose (S.faults commands.old) (S.faults commands.new) → ¬ Rose (S.faults schedule.old) (S.faults schedule.new) → ¬ Rose (K.faults out.old) (K.faults out.new)
+        → ¬ HasFailed (watch S.left S.faults commands.old commands.new) → ¬ HasFailed (watch S.left S.faults schedule.old schedule.new) → ¬ HasFailed (watch K.taken K.faults out.old out.new)
         → IsCarriedOut result (K.taken out.old) (K.taken out.new) }
     ensures refused { is_run (map string_bytes words.now) ≡ true → AreKnownRefused (S.left commands.old) (S.left schedule.old)
-        → ¬ Rose (S.faults commands.old) (S.faults commands.new) → ¬ Rose (S.faults schedule.old) (S.faults schedule.new) → IsTurnedDown result }
+        → ¬ HasFailed (watch S.left S.faults commands.old commands.new) → ¬ HasFailed (watch S.left S.faults schedule.old schedule.new) → IsTurnedDown result }
 
     // Nothing goes out before the first step, and a failure is told only where one came.
     ensures early { IsEarly result → K.taken out.new ≡ K.taken out.old }
-    ensures read { result ≡ Status.Read → Rose (S.faults commands.old) (S.faults commands.new) ⊎ Rose (S.faults schedule.old) (S.faults schedule.new) }
-    ensures write { result ≡ Status.Write → Rose (K.faults out.old) (K.faults out.new) }
+    ensures read { result ≡ Status.Read → HasFailed (watch S.left S.faults commands.old commands.new) ⊎ HasFailed (watch S.left S.faults schedule.old schedule.new) }
+    ensures write { result ≡ Status.Write → HasFailed (watch K.taken K.faults out.old out.new) }
 
     // Each status has its cause, and its line on `err`.
     ensures ending { (ending : Ending) × (result ≡ status_of ending) × IsToldOn (E.taken err.old) (E.taken err.new) (E.faults err.old) (E.faults err.new) ending
         × Comes ending (map string_bytes words.now)
-        (record { before = S.left commands.old; after = S.left commands.new; faults_before = S.faults commands.old; faults_after = S.faults commands.new })
-        (record { before = S.left schedule.old; after = S.left schedule.new; faults_before = S.faults schedule.old; faults_after = S.faults schedule.new })
-        (record { before = K.taken out.old; after = K.taken out.new; faults_before = K.faults out.old; faults_after = K.faults out.new }) }
-    ensures taken { TakeFronts (S.left commands.old) (S.left schedule.old) (S.left commands.new) (S.left schedule.new)
-        (Rose (S.faults commands.old) (S.faults commands.new)) (Rose (S.faults schedule.old) (S.faults schedule.new)) }
+        (watch S.left S.faults commands.old commands.new)
+        (watch S.left S.faults schedule.old schedule.new)
+        (watch K.taken K.faults out.old out.new) }
+    ensures taken { IsTakenFromFront (watch S.left S.faults commands.old commands.new) × IsTakenFromFront (watch S.left S.faults schedule.old schedule.new) }
     ensures never_fall { (S.faults commands.old ≤ S.faults commands.new) × (S.faults schedule.old ≤ S.faults schedule.new) × (K.faults out.old ≤ K.faults out.new) }
 {
     let ending = carry_out(alloc, words, commands, schedule, out);

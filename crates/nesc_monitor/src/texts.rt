@@ -1,9 +1,8 @@
 ghost use Rattle.std.specs.Prelude.{◌≡◌, ◌≤◌, Some, length, IfErr, IfOk, OnOk};
 ghost use Rattle.script_lang.specs.CommandsText.{IsCommandsText, blocks_in_all};
-ghost use Rattle.nesc_monitor.specs.Endings.{IsReadOut, IsTurnedAway};
+ghost use Rattle.nesc_monitor.specs.Endings.{IsReadOut, IsTakenFromFront, IsTurnedAway, watch};
 ghost use Rattle.script_lang.specs.Limits.{most_blocks};
-ghost use Rattle.nesc_base.specs.Fault.{Rose};
-ghost use Rattle.nesc_monitor.specs.Reading.{GivesAll, TakeFronts};
+ghost use Rattle.nesc_monitor.specs.Reading.{GivesAll};
 ghost use Rattle.script_lang.specs.ScheduleText.{schedule_of};
 ghost use Rattle.nesc_monitor.specs.Texts.{IsRefusal, IsTold};
 
@@ -33,10 +32,9 @@ fn read_texts<S: Source>(alloc: Global, commands: &mut S, schedule: &mut S) -> R
     ensures schedule { IfOk result (λ texts. GivesAll texts.schedule.items (S.left schedule.old) (S.left schedule.new)) }
     ensures within { IfOk result (λ texts. (length texts.commands.items ≤ 16777216) × (length texts.schedule.items ≤ 16777216)) }
     ensures turned_away { IfErr result (λ ending. IsTurnedAway ending
-        (record { before = S.left commands.old; after = S.left commands.new; faults_before = S.faults commands.old; faults_after = S.faults commands.new })
-        (record { before = S.left schedule.old; after = S.left schedule.new; faults_before = S.faults schedule.old; faults_after = S.faults schedule.new })) }
-    ensures taken { TakeFronts (S.left commands.old) (S.left schedule.old) (S.left commands.new) (S.left schedule.new)
-        (Rose (S.faults commands.old) (S.faults commands.new)) (Rose (S.faults schedule.old) (S.faults schedule.new)) }
+        (watch S.left S.faults commands.old commands.new)
+        (watch S.left S.faults schedule.old schedule.new)) }
+    ensures taken { IsTakenFromFront (watch S.left S.faults commands.old commands.new) × IsTakenFromFront (watch S.left S.faults schedule.old schedule.new) }
     ensures never_fall { (S.faults commands.old ≤ S.faults commands.new) × (S.faults schedule.old ≤ S.faults schedule.new) }
 {
     let commands = match read_text(alloc, commands) {
@@ -84,10 +82,9 @@ pub fn read_script<S: Source>(
     ensures read_out { OnOk result (IsReadOut (S.left commands.old) (S.left commands.new) × IsReadOut (S.left schedule.old) (S.left schedule.new)) }
     ensures few { IfOk result (λ script. blocks_in_all script.commands ≤ most_blocks) }
     ensures turned_away { IfErr result (λ ending. IsTurnedAway ending
-        (record { before = S.left commands.old; after = S.left commands.new; faults_before = S.faults commands.old; faults_after = S.faults commands.new })
-        (record { before = S.left schedule.old; after = S.left schedule.new; faults_before = S.faults schedule.old; faults_after = S.faults schedule.new })) }
-    ensures taken { TakeFronts (S.left commands.old) (S.left schedule.old) (S.left commands.new) (S.left schedule.new)
-        (Rose (S.faults commands.old) (S.faults commands.new)) (Rose (S.faults schedule.old) (S.faults schedule.new)) }
+        (watch S.left S.faults commands.old commands.new)
+        (watch S.left S.faults schedule.old schedule.new)) }
+    ensures taken { IsTakenFromFront (watch S.left S.faults commands.old commands.new) × IsTakenFromFront (watch S.left S.faults schedule.old schedule.new) }
     ensures never_fall { (S.faults commands.old ≤ S.faults commands.new) × (S.faults schedule.old ≤ S.faults schedule.new) }
 {
     match read_texts(alloc, commands, schedule) {

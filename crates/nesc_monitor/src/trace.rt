@@ -1,11 +1,11 @@
 ghost use Rattle.std.specs.Prelude.{◌≡◌};
 ghost use Rattle.file_model.specs.Lines.{done_text, group_text, kind_text, line_text};
-ghost use Rattle.file_model.specs.declared.line.Line.TheVariants.{Handled, Host, Missed, Replied, Served, Submitted};
+ghost use Rattle.file_model.specs.declared.line.Line.TheVariants as line;
 ghost use Rattle.nesc_session.specs.Outcome.{lines_of};
 ghost use Rattle.text_kit.specs.Writes.{Writes};
 
 use crate::pieces::{Piece, write_pieces};
-use file_model::{How, Line, Submission};
+use file_model::{Handled, How, Line, Submission};
 use nesc_base::{End, FnNo, HostAnswer, Kind, Miss, Reply, Request, Sink, WriteFault};
 use nesc_session::Outcome;
 use text_kit::write_text;
@@ -38,7 +38,7 @@ fn write_line<K: Sink>(sink: &mut K, line: &Line) -> Result<(), WriteFault>
 }
 
 fn write_host<K: Sink>(sink: &mut K, answer: &HostAnswer) -> Result<(), WriteFault>
-    ensures { Writes K.taken K.faults K.lent sink.old sink.new (line_text (Host answer.now)) result }
+    ensures { Writes K.taken K.faults K.lent sink.old sink.new (line_text (line.Host answer.now)) result }
 {
     match answer {
         HostAnswer::Ok => write_text(sink, b"h ok\n"),
@@ -64,7 +64,7 @@ fn write_submission<K: Sink>(
     f: FnNo,
     submission: Submission,
 ) -> Result<(), WriteFault>
-    ensures { Writes K.taken K.faults K.lent sink.old sink.new (line_text (Submitted f submission)) result }
+    ensures { Writes K.taken K.faults K.lent sink.old sink.new (line_text (line.Submitted f submission)) result }
 {
     let guest = Piece::Text(b"g ");
     let f = Piece::Number(u64::from(f.0));
@@ -86,7 +86,7 @@ fn write_submission<K: Sink>(
 }
 
 fn write_served<K: Sink>(sink: &mut K, f: FnNo, v: u32, how: How) -> Result<(), WriteFault>
-    ensures { Writes K.taken K.faults K.lent sink.old sink.new (line_text (Served f v how)) result }
+    ensures { Writes K.taken K.faults K.lent sink.old sink.new (line_text (line.Served f v how)) result }
 {
     let (word, fetched) = match how {
         How::Walk(fetched) => (b" walk ".as_slice(), fetched),
@@ -108,7 +108,7 @@ fn write_served<K: Sink>(sink: &mut K, f: FnNo, v: u32, how: How) -> Result<(), 
 }
 
 fn write_past<K: Sink>(sink: &mut K, f: FnNo, v: u32) -> Result<(), WriteFault>
-    ensures { Writes K.taken K.faults K.lent sink.old sink.new (line_text (Served f v How.Range)) result }
+    ensures { Writes K.taken K.faults K.lent sink.old sink.new (line_text (line.Served f v How.Range)) result }
 {
     write_pieces(
         sink,
@@ -131,7 +131,7 @@ fn kind_text(kind: Kind) -> &'static [u8]
 }
 
 fn write_missed<K: Sink>(sink: &mut K, f: FnNo, miss: Miss, fetched: u32) -> Result<(), WriteFault>
-    ensures { Writes K.taken K.faults K.lent sink.old sink.new (line_text (Missed f miss fetched)) result }
+    ensures { Writes K.taken K.faults K.lent sink.old sink.new (line_text (line.Missed f miss fetched)) result }
 {
     write_pieces(
         sink,
@@ -149,18 +149,14 @@ fn write_missed<K: Sink>(sink: &mut K, f: FnNo, miss: Miss, fetched: u32) -> Res
     )
 }
 
-fn write_handled<K: Sink>(
-    sink: &mut K,
-    f: FnNo,
-    handled: file_model::Handled,
-) -> Result<(), WriteFault>
-    ensures { Writes K.taken K.faults K.lent sink.old sink.new (line_text (Handled f handled)) result }
+fn write_handled<K: Sink>(sink: &mut K, f: FnNo, handled: Handled) -> Result<(), WriteFault>
+    ensures { Writes K.taken K.faults K.lent sink.old sink.new (line_text (line.Handled f handled)) result }
 {
     let host = Piece::Text(b"i ");
     let f = Piece::Number(u64::from(f.0));
     match handled {
-        file_model::Handled::None => write_pieces(sink, &[host, f, Piece::Text(b" none\n")]),
-        file_model::Handled::Held { count } => {
+        Handled::None => write_pieces(sink, &[host, f, Piece::Text(b" none\n")]),
+        Handled::Held { count } => {
             let count = Piece::Number(u64::from(count));
             write_pieces(
                 sink,
@@ -171,7 +167,7 @@ fn write_handled<K: Sink>(
 }
 
 fn write_reply<K: Sink>(sink: &mut K, reply: &Reply) -> Result<(), WriteFault>
-    ensures { Writes K.taken K.faults K.lent sink.old sink.new (line_text (Replied reply.now)) result }
+    ensures { Writes K.taken K.faults K.lent sink.old sink.new (line_text (line.Replied reply.now)) result }
 {
     let guest = Piece::Text(b"r ");
     let f = Piece::Number(u64::from(reply.f.0));

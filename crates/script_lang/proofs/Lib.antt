@@ -1,5 +1,7 @@
+pub mod CountLemmas
 pub mod EachLemmas
 pub mod FitLemmas
+pub mod GuestLemmas
 pub mod LeftLemmas
 pub mod ScriptLemmas
 pub mod StepLemmas

@@ -1,6 +1,9 @@
 -- What the values of a table say, one after another.
-use Rattle.std.proofs.Common.{◌≡◌, ℕ, List, [], ◌∷◌, ◌++◌, Option, Some, None, refl}
+use Rattle.std.proofs.Common.{◌≡◌, ℕ, ◌+◌, ◌<◌, List, [], ◌∷◌, ◌++◌, length, get_or, drop, Option, Some, None, refl, ap, sym, ◌∙◌}
+use Rattle.toml.proofs.Views.{items_view-drop}
 use Rattle.toml.specs.Data.{Data, string, integer, float, boolean, datetime, array, table, Items, item}
+use Rattle.toml.specs.View.{view, items_view}
+use Rattle.toml.specs.declared.value.Value.{Value}
 use Rattle.nesc_base.specs.declared.request.Request.{Request}
 use Rattle.script_lang.specs.CommandsText.{strings_of, each_of_items, each_at, guests_of_items, request_of}
 use Rattle.script_lang.specs.Parts.{said_by}
@@ -34,3 +37,13 @@ guests-more (float y) items requests done gives = cc
 guests-more (boolean b) items requests done gives = cc
 guests-more (datetime dt) items requests done gives = cc
 guests-more (table entries) items requests done gives = cc
+
+-- the value in front of those that are left
+pub values-front : (values : List Value) (i : ℕ) (value : Value) → i < length values → value ≡ get_or values i value → items_view (drop i values) ≡ item (view value) (items_view (drop (i + 1) values))
+values-front values i value within is = items_view-drop values i value within ∙ ap (λ v. item (view v) (items_view (drop (i + 1) values))) (sym is)
+
+-- it is read
+pub values-more : {C : Type 0} (said : List ℕ → Option C) (values : List Value) (i : ℕ) (value : Value) (x : C) (done : List C) → i < length values → value ≡ get_or values i value → said_by said (view value) ≡ Some x
+    → onto done (each_of_items said (items_view (drop i values))) ≡ onto (done ++ x ∷ []) (each_of_items said (items_view (drop (i + 1) values)))
+values-more said values i value x done within is gives =
+    ap (λ items. onto done (each_of_items said items)) (values-front values i value within is) ∙ items-more said (view value) (items_view (drop (i + 1) values)) x done gives

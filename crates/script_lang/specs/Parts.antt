@@ -1,9 +1,10 @@
 -- What the parts of the texts are, as they are read.
-use Rattle.std.specs.Prelude.{ℕ, List, [], ◌∷◌, Option, None}
+use Rattle.std.specs.Prelude.{ℕ, ◌<◌, List, [], ◌∷◌, Option, None, IfSome}
 use Rattle.toml.specs.Data.{Data, string}
 use Rattle.nesc_base.specs.declared.word.Word.{Word}
 use Rattle.script_lang.specs.declared.schedule.Steps.{Steps}
 use Rattle.script_lang.specs.declared.schedule.Steps.TheVariants.{One, Ticks}
+use Rattle.script_lang.specs.Limits.{most_blocks}
 use Rattle.script_lang.specs.ScheduleText.{ticks}
 
 -- the steps that a word of a schedule stands for
@@ -15,3 +16,7 @@ steps_in (Ticks n) = ticks n
 abbrev pub said_by : {C : Type 0} → (List ℕ → Option C) → Data → Option C
 said_by said (string text) = said text
 said_by said value = None
+
+-- what is said has too many blocks, unless nothing is said
+abbrev pub TooMany : {A : Type 0} → (A → ℕ) → Option A → Type 0
+TooMany blocks said = IfSome said (λ all. most_blocks < blocks all)

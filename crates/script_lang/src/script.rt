@@ -1,19 +1,19 @@
 ghost use Rattle.std.specs.Prelude.{◌≡◌, ◌≤◌, ◌∷◌, [], ℕ, List, Option, Some, None, codes, length, map, min, nat_lt, suc, option_map, IfOk, IfSome, IfNone, IsErrOf};
 ghost use Rattle.std.specs.List.{sum_by};
-ghost use Rattle.toml.specs.Data.{get_member};
+ghost use Rattle.toml.specs.Data.{array, get_member};
 ghost use Rattle.toml.specs.View.{view, items_view, table_view};
 ghost use Rattle.nesc_base.specs.Requests.{Fits, blocks_of};
 ghost use Rattle.nesc_base.specs.Script.{Script, numbered, requests_of};
 ghost use Rattle.script_lang.specs.CommandsText.{IsCommandsText, blocks_in, blocks_in_all, each_at, each_of_items, enough_blocks, enough_guests, guests_at, guests_of, guests_of_items, has_known_keys, host_command_of, request_of, script_of, script_of_members};
 ghost use Rattle.script_lang.specs.Left.{Takes};
-ghost use Rattle.script_lang.specs.Limits.{most_blocks};
-ghost use Rattle.script_lang.specs.Parts.{said_by};
+ghost use Rattle.script_lang.specs.Limits.{most_blocks, most_functions};
+ghost use Rattle.script_lang.specs.Parts.{TooMany, said_by};
 ghost use Rattle.script_lang.specs.Reads.{Reads};
 
 use crate::commands::{MOST_FUNCTIONS, host_command_of, request_of};
 use crate::fault::InputFault;
 use crate::schedule::MOST_BYTES;
-use nesc_base::{FnNo, HostCommand, Request};
+use nesc_base::{FnNo, HostCommand, NoMemory, Request};
 use std::alloc::Global;
 use std::collections::VecDeque;
 use std::marker::Model;
@@ -148,24 +148,42 @@ fn blocks_of_guest(requests: &VecDeque<Request>) -> u64
 trait Spoken: Drop {
     ghost said: { List ℕ → Option Self };
 
+    ghost blocks: { Self → ℕ };
+
     /// What the text says.
     fn read(alloc: Global, text: &[u8]) -> Result<Self, InputFault>
         ensures { Reads result (said text.now) };
+
+    /// How many blocks it has.
+    fn blocks(&self) -> u32
+        ensures { result ≡ blocks self.now };
 }
 
 impl Spoken for HostCommand {
     ghost said = { host_command_of };
 
+    ghost blocks = { blocks_in };
+
     fn read(alloc: Global, text: &[u8]) -> Result<HostCommand, InputFault> {
         host_command_of(alloc, text)
+    }
+
+    fn blocks(&self) -> u32 {
+        blocks_in(self)
     }
 }
 
 impl Spoken for Request {
     ghost said = { request_of };
 
+    ghost blocks = { blocks_of };
+
     fn read(alloc: Global, text: &[u8]) -> Result<Request, InputFault> {
         request_of(alloc, text)
+    }
+
+    fn blocks(&self) -> u32 {
+        Request::blocks(self)
     }
 }
 
@@ -177,14 +195,19 @@ fn read_one<C: Spoken>(alloc: Global, value: &Value) -> Result<C, InputFault>
     C::read(alloc, text.as_bytes())
 }
 
-/// What the strings of an array say.
+/// What the strings of an array say. It counts their blocks, and reads no more once there are too many.
 fn read_all<C: Spoken>(alloc: Global, values: &[Value]) -> Result<VecDeque<C>, InputFault>
     ensures read { IfOk result (λ items. each_of_items C.said (items_view values.now) ≡ Some items.items) }
-    ensures refused { IsErrOf result InputFault.Refused → each_of_items C.said (items_view values.now) ≡ None }
+    ensures refused { IsErrOf result InputFault.Refused → TooMany (sum_by C.blocks) (each_of_items C.said (items_view values.now)) }
 {
     let mut items = VecDeque::new(alloc);
+    let mut blocks = 0u64;
     for value in values {
-        let item = read_one(alloc, value)?;
+        let item = read_one::<C>(alloc, value)?;
+        blocks += u64::from(item.blocks());
+        if blocks > MOST_BLOCKS {
+            return Err(InputFault::Refused);
+        }
         items.push_back(item)?;
     }
     Ok(items)
@@ -193,7 +216,7 @@ fn read_all<C: Spoken>(alloc: Global, values: &[Value]) -> Result<VecDeque<C>, I
 /// What the strings of the array at a key say; there are none where the key is absent.
 fn read_at<C: Spoken>(alloc: Global, value: Option<&Value>) -> Result<VecDeque<C>, InputFault>
     ensures read { IfOk result (λ items. each_at C.said (option_map (λ value. view value.now) value.entry) ≡ Some items.items) }
-    ensures refused { IsErrOf result InputFault.Refused → each_at C.said (option_map (λ value. view value.now) value.entry) ≡ None }
+    ensures refused { IsErrOf result InputFault.Refused → TooMany (sum_by C.blocks) (each_at C.said (option_map (λ value. view value.now) value.entry)) }
 {
     let Some(value) = value else {
         return Ok(VecDeque::new(alloc));
@@ -202,11 +225,15 @@ fn read_at<C: Spoken>(alloc: Global, value: Option<&Value>) -> Result<VecDeque<C
     read_all(alloc, values.as_slice())
 }
 
-/// The requests of each guest of an array.
+/// The requests of each guest of an array, if no more are named than there are functions.
 fn read_guests(alloc: Global, values: &[Value]) -> Result<Vec<VecDeque<Request>>, InputFault>
     ensures read { IfOk result (λ guests. guests_of_items (items_view values.now) ≡ Some (map (λ queue. queue.items) guests.items)) }
-    ensures refused { IsErrOf result InputFault.Refused → guests_of_items (items_view values.now) ≡ None }
+    ensures few { IfOk result (λ guests. length guests.items ≤ most_functions) }
+    ensures refused { IsErrOf result InputFault.Refused → TooMany (sum_by (sum_by blocks_of)) (guests_of (Some (array (items_view values.now)))) }
 {
+    if values.len() > usize::from(MOST_FUNCTIONS) {
+        return Err(InputFault::Refused);
+    }
     let mut guests = Vec::new(alloc);
     for value in values {
         let requests = read_at(alloc, Some(value))?;
@@ -221,7 +248,8 @@ fn read_guests_at(
     value: Option<&Value>,
 ) -> Result<Vec<VecDeque<Request>>, InputFault>
     ensures read { IfOk result (λ guests. guests_at (option_map (λ value. view value.now) value.entry) ≡ Some (map (λ queue. queue.items) guests.items)) }
-    ensures refused { IsErrOf result InputFault.Refused → guests_at (option_map (λ value. view value.now) value.entry) ≡ None }
+    ensures few { IfOk result (λ guests. length guests.items ≤ most_functions) }
+    ensures refused { IsErrOf result InputFault.Refused → TooMany (sum_by (sum_by blocks_of)) (guests_of (option_map (λ value. view value.now) value.entry)) }
 {
     let Some(value) = value else {
         return Ok(Vec::new(alloc));
@@ -230,19 +258,16 @@ fn read_guests_at(
     read_guests(alloc, values.as_slice())
 }
 
-/// A guest for each function, those that are not named with no requests, if no more are named.
-fn enough_guests(
+/// A guest for each function, those that are not named with no requests.
+fn with_idle(
     alloc: Global,
     guests: Vec<VecDeque<Request>>,
-) -> Result<Vec<VecDeque<Request>>, InputFault>
-    ensures read { IfOk result (λ all. enough_guests (map (λ queue. queue.items) guests.items) ≡ Some (map (λ queue. queue.items) all.items)) }
-    ensures refused { IsErrOf result InputFault.Refused → enough_guests (map (λ queue. queue.items) guests.items) ≡ None }
+) -> Result<Vec<VecDeque<Request>>, NoMemory>
+    requires { length guests.items ≤ most_functions }
+    ensures { IfOk result (λ all. enough_guests (map (λ queue. queue.items) guests.items) ≡ Some (map (λ queue. queue.items) all.items)) }
 {
     let mut guests = guests;
     let named = guests.len();
-    if named > usize::from(MOST_FUNCTIONS) {
-        return Err(InputFault::Refused);
-    }
     for _ in named..usize::from(MOST_FUNCTIONS) {
         guests.push(VecDeque::new(alloc))?;
     }
@@ -263,7 +288,7 @@ fn has_known_keys(table: &Table) -> bool
 /// The host's commands of a table.
 fn read_host(alloc: Global, table: &Table) -> Result<VecDeque<HostCommand>, InputFault>
     ensures read { IfOk result (λ host. each_at host_command_of (get_member (codes "host") (table_view table.now)) ≡ Some host.items) }
-    ensures refused { IsErrOf result InputFault.Refused → each_at host_command_of (get_member (codes "host") (table_view table.now)) ≡ None }
+    ensures refused { IsErrOf result InputFault.Refused → TooMany (sum_by blocks_in) (each_at host_command_of (get_member (codes "host") (table_view table.now))) }
 {
     read_at(alloc, table.get("host"))
 }
@@ -271,10 +296,10 @@ fn read_host(alloc: Global, table: &Table) -> Result<VecDeque<HostCommand>, Inpu
 /// The guests' requests of a table.
 fn read_each_guest(alloc: Global, table: &Table) -> Result<Vec<VecDeque<Request>>, InputFault>
     ensures read { IfOk result (λ guests. guests_of (get_member (codes "guest") (table_view table.now)) ≡ Some (map (λ queue. queue.items) guests.items)) }
-    ensures refused { IsErrOf result InputFault.Refused → guests_of (get_member (codes "guest") (table_view table.now)) ≡ None }
+    ensures refused { IsErrOf result InputFault.Refused → TooMany (sum_by (sum_by blocks_of)) (guests_of (get_member (codes "guest") (table_view table.now))) }
 {
     let guests = read_guests_at(alloc, table.get("guest"))?;
-    enough_guests(alloc, guests)
+    Ok(with_idle(alloc, guests)?)
 }
 
 /// The commands, if they do not have too many blocks.

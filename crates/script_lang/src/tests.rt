@@ -42,6 +42,20 @@ fn commands(rt: HostRuntime) -> Result<(), Fail> {
 }
 
 #[test]
+fn too_many_blocks(rt: HostRuntime) -> Result<(), Fail> {
+    let mut text = Vec::new(rt.alloc());
+    text.extend_from_slice(b"host = [").ok().ok_or("memory")?;
+    for _ in 0..5000 {
+        text.extend_from_slice(b"'get a 0 64',")
+            .ok()
+            .ok_or("memory")?;
+    }
+    text.push(b']').ok().ok_or("memory")?;
+    assert!(rt; matches!(read_commands(rt.alloc(), &text), Err(InputFault::Refused)));
+    Ok(())
+}
+
+#[test]
 fn schedules(rt: HostRuntime) -> Result<(), Fail> {
     let (g, i) = (Word::G(FnNo(1)), Word::I(FnNo(1)));
     let mut schedule = read_schedule(rt.alloc(), b"h\tt*3 g01\r\ni1 t")

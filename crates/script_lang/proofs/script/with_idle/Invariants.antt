@@ -1,5 +1,5 @@
 use Rattle.std.proofs.Common.{◌≡◌, ◌++◌, ◌-◌, [], length, map, replicate}
-use Rattle.script_lang.proofs.script.enough_guests.Given as goal
+use Rattle.script_lang.proofs.script.with_idle.Given as goal
 
 -- so many guests with no requests stand behind those that are named
 abbrev pub invariant-loop : goal.invariant-loop

@@ -19,7 +19,7 @@ pub struct FileSource<'a, R: Files> {
 }
 
 impl<'a, R: Files> Model for FileSource<'a, R> {
-    ghost use Rattle.nesc.specs.FileSource.{FileSourceState};
+    ghost use Rattle.nesc_host_os.specs.FileSource.{FileSourceState};
 
     ghost Value = { FileSourceState R.File };
 

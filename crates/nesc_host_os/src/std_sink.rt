@@ -15,7 +15,7 @@ pub struct StdSink<W> {
 }
 
 impl<W> Model for StdSink<W> {
-    ghost use Rattle.nesc.specs.StdSink.{StdSinkState};
+    ghost use Rattle.nesc_host_os.specs.StdSink.{StdSinkState};
 
     ghost Value = { StdSinkState W };
 
