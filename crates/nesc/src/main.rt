@@ -2,12 +2,17 @@
 //! streams to `nesc_monitor::run`, and exits with the status that it answers.
 #![tactic(auto)]
 
+ghost use Rattle.std.specs.Prelude.{◌≡◌, codes};
+ghost use Rattle.nesc_base.specs.Fault.{Rose};
+ghost use Rattle.nesc_base.specs.Sink.{Appends};
+
 use nesc_base::Sink;
 use nesc_host_os::{FileSource, StdSink};
 use nesc_monitor::{Status, run};
 use std::process::ExitCode;
 use std::rt::Env;
 use std::{env, io};
+use text_kit::write_text;
 
 /// The words behind the program's name. An `Err` says that there is no memory for them.
 fn words_of(rt: &(impl Env + AllocGlobal)) -> io::Result<Vec<String>> {
@@ -18,12 +23,20 @@ fn words_of(rt: &(impl Env + AllocGlobal)) -> io::Result<Vec<String>> {
     Ok(words)
 }
 
+/// Says on standard error that there was no memory for the words, and answers the status of that.
+fn without_memory<E: Sink>(err: &mut E) -> Status
+    ensures status { result ≡ Status.Memory }
+    ensures told { ¬ Rose (E.faults err.old) (E.faults err.new) → Appends (E.taken err.old) (E.taken err.new) (codes "nesc: memory\n") }
+{
+    let _told = write_text(err, b"nesc: memory\n");
+    Status::Memory
+}
+
 fn main(rt: HostRuntime) -> ExitCode {
     let mut out = StdSink::new(rt.stdout());
     let mut err = StdSink::new(rt.stderr());
     let Ok(words) = words_of(&rt) else {
-        let _told = err.write(b"nesc: memory\n");
-        return ExitCode::from(Status::Memory.code());
+        return ExitCode::from(without_memory(&mut err).code());
     };
     let mut commands = FileSource::new(&rt, "commands.toml");
     let mut schedule = FileSource::new(&rt, "schedule.txt");

@@ -1,3 +1,4 @@
+use crate::without_memory;
 use nesc_fakes::{MemSink, MemSource, SlowSink, SlowSource};
 use nesc_monitor::{Status, run};
 use std::alloc::{AllocError, Global};
@@ -100,6 +101,14 @@ fn each_failure_is_told(rt: HostRuntime) -> Result<(), Fail> {
     assert!(rt; front.starts_with(b"h ok\nh ok\nt idle\nt idle\n"));
     assert!(rt; front.len() > 1000 && front.len() < 700_000);
     Ok(())
+}
+
+#[test]
+fn want_of_memory_is_told(rt: HostRuntime) {
+    let alloc = rt.alloc();
+    let mut err = MemSink::new(alloc, Vec::new(alloc));
+    assert_eq!(rt; without_memory(&mut err), Status::Memory);
+    assert_eq!(rt; err.bytes(), b"nesc: memory\n".as_slice());
 }
 
 #[test]
