@@ -8,7 +8,8 @@ use Rattle.nesc_base.specs.declared.host.HostCommand.TheVariants.{Create, Put, G
 use Rattle.nesc_base.specs.declared.host.HostAnswer.{HostAnswer}
 use Rattle.nesc_base.specs.declared.host.HostAnswer.TheVariants.{Ok, Exists, NoSlot, NoFile, Range, Got, FunctionTaken, FileTaken}
 use Rattle.nesc_base.specs.Script.{numbered, with_numbered}
-use Rattle.file_model.specs.Files.{File, Files, HasName, Puts, PutsEach, read_from}
+use Rattle.nesc_base.specs.Files.{File, Files}
+use Rattle.file_model.specs.Files.{HasName, Puts, PutsEach, read_from}
 use Rattle.file_model.specs.Functions.{Function, fresh, is_off, is_taken}
 use Rattle.file_model.specs.HostCommands.{AttachStep, FileStep, PutsBlocks}
 use Rattle.file_model.specs.Laws.{IsAnswered}

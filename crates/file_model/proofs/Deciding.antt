@@ -8,7 +8,8 @@ use Rattle.std.specs.Ordering.{nat_cmp, eq_by_cmp}
 use Rattle.std.specs.Str.{bytes_eq}
 use Rattle.std.proofs.lemmas.Bool.{both_ways, cases_Bool, cases_eq, eqb-true, false≢true, or_cases}
 use Rattle.std.proofs.lemmas.Slice.Eq.{bytes_eq-Decides}
-use Rattle.file_model.specs.Files.{File, Files, HasName, IsUnnamed, IsFull, IsLowestUnused}
+use Rattle.nesc_base.specs.Files.{File, Files}
+use Rattle.file_model.specs.Files.{HasName, IsUnnamed, IsFull, IsLowestUnused}
 
 -- a file has the name
 abbrev pub IsNamed : Files → List ℕ → Type 0

@@ -6,7 +6,8 @@ use Rattle.std.specs.Ordering.{nat_cmp}
 use Rattle.std.proofs.lemmas.Bool.{cases_eq, false≢true}
 use Rattle.nesc_base.specs.declared.block.Block.{Block}
 use Rattle.nesc_base.specs.Block.{zero_block}
-use Rattle.file_model.specs.Files.{Body, File, Files, IsFileSet, Change, create, hold, put, Creates, Holds, Puts, Changes, with_zeros}
+use Rattle.nesc_base.specs.Files.{Body, File, Files, IsFileSet}
+use Rattle.file_model.specs.Files.{Change, create, hold, put, Creates, Holds, Puts, Changes, with_zeros}
 use Rattle.file_model.proofs.Maps.{get-insert_same, get-insert_other}
 
 -- the blocks of a body lie below a length

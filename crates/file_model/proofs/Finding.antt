@@ -2,7 +2,8 @@
 use Rattle.std.proofs.Common.{◌≡◌, ◌≢◌, ℕ, ◌+◌, ◌<◌, ◌≤◌, List, Some, sym, ap, ◌∙◌, arith, rules, ⊎_elim}
 use Rattle.std.specs.FinMap.{get}
 use Rattle.std.proofs.lemmas.Bool.{cases_eq}
-use Rattle.file_model.specs.Files.{File, Files, IsFileSet, IsUnnamed}
+use Rattle.nesc_base.specs.Files.{File, Files, IsFileSet}
+use Rattle.file_model.specs.Files.{IsUnnamed}
 
 -- no file of a number from 1 up to n has the name
 abbrev pub IsUnnamedBelow : Files → List ℕ → ℕ → Type 0

@@ -4,7 +4,8 @@ use Rattle.std.specs.FinMap.{get, insert}
 use Rattle.std.specs.List.{AllByRecursion, IsDistinct, filter, range_with_len}
 use Rattle.std.proofs.lemmas.Bool.{cases_eq}
 use Rattle.nesc_base.specs.Block.{zero_block}
-use Rattle.file_model.specs.Files.{Body, Changes, File, Files, Holds, hold, holds, unheld, with_zeros}
+use Rattle.nesc_base.specs.Files.{Body, File, Files}
+use Rattle.file_model.specs.Files.{Changes, Holds, hold, holds, unheld, with_zeros}
 use Rattle.file_model.specs.PlainFile.{with_held}
 use Rattle.file_model.specs.PlainFiles.{AreHeld}
 use Rattle.file_model.proofs.Holding.{none_from_is_some}

@@ -4,7 +4,8 @@ use Rattle.std.specs.FinMap.{insert, remove}
 use Rattle.std.specs.Option.{is_some}
 use Rattle.nesc_base.specs.declared.block.Block.{Block}
 use Rattle.nesc_base.specs.Block.{zero_block}
-use Rattle.file_model.specs.Files.{Body, File, holds, unheld, with_zeros}
+use Rattle.nesc_base.specs.Files.{Body, File}
+use Rattle.file_model.specs.Files.{holds, unheld, with_zeros}
 use Rattle.file_model.specs.PlainFile.{with_block, with_held}
 use Rattle.file_model.proofs.Maps.{get-insert_other, remove-insert}
 

@@ -1,7 +1,8 @@
 -- Which file has a name.
 use Rattle.std.proofs.Common.{◌≡◌, ℕ, List, Some, sym, ap, ◌∙◌}
 use Rattle.std.specs.FinMap.{get}
-use Rattle.file_model.specs.Files.{File, Files, IsFileSet, HasName, IsUnnamed}
+use Rattle.nesc_base.specs.Files.{File, Files, IsFileSet}
+use Rattle.file_model.specs.Files.{HasName, IsUnnamed}
 
 -- one file has the name
 pub named_one : (old : Files) (name : List ℕ) (m n : ℕ) (file other : File) → IsFileSet old → HasName old name m file → HasName old name n other → (m ≡ n) × (file ≡ other)

@@ -5,7 +5,8 @@ use Rattle.nesc_base.specs.declared.host.HostCommand.{HostCommand}
 use Rattle.nesc_base.specs.declared.host.HostCommand.TheVariants.{Create, Put, Get, Attach}
 use Rattle.nesc_base.specs.declared.host.HostAnswer.{HostAnswer}
 use Rattle.nesc_base.specs.declared.host.HostAnswer.TheVariants.{Ok, Exists, NoSlot, NoFile, Range, Got, FunctionTaken, FileTaken}
-use Rattle.file_model.specs.Files.{File, Files, IsFileSet, HasName, IsUnnamed, IsFull, Creates, Holds, PutsEach, read_from, unheld}
+use Rattle.nesc_base.specs.Files.{File, Files, IsFileSet}
+use Rattle.file_model.specs.Files.{HasName, IsUnnamed, IsFull, Creates, Holds, PutsEach, read_from, unheld}
 use Rattle.file_model.specs.HostCommands.{FileStep, IsOutside, PutsBlocks, GetsBlocks}
 use Rattle.file_model.specs.Laws.{HasOneAnswer}
 use Rattle.file_model.specs.State.{State}

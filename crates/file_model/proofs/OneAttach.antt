@@ -4,7 +4,8 @@ use Rattle.std.proofs.lemmas.Bool.{both_ways}
 use Rattle.nesc_base.specs.declared.host.HostAnswer.{HostAnswer}
 use Rattle.nesc_base.specs.declared.host.HostAnswer.TheVariants.{Ok, Exists, NoSlot, NoFile, Range, Got, FunctionTaken, FileTaken}
 use Rattle.nesc_base.specs.Script.{with_numbered}
-use Rattle.file_model.specs.Files.{IsFileSet, IsUnnamed}
+use Rattle.nesc_base.specs.Files.{IsFileSet}
+use Rattle.file_model.specs.Files.{IsUnnamed}
 use Rattle.file_model.specs.Functions.{Function, fresh, is_off, is_taken}
 use Rattle.file_model.specs.HostCommands.{AttachStep, Attaches, IsFunctionTaken, IsFileTaken}
 use Rattle.file_model.specs.State.{State}

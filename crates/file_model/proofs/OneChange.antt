@@ -3,7 +3,8 @@ use Rattle.std.proofs.Common.{◌≡◌, ℕ, ◌+◌, ◌<◌, ◌≤◌, List,
 use Rattle.std.specs.FinMap.{insert, empty}
 use Rattle.std.proofs.lemmas.Bool.{false≢true, cases_lt}
 use Rattle.nesc_base.specs.declared.block.Block.{Block}
-use Rattle.file_model.specs.Files.{File, Files, IsLowestUnused, Creates, Holds, Puts, PutsEach, with_zeros}
+use Rattle.nesc_base.specs.Files.{File, Files}
+use Rattle.file_model.specs.Files.{IsLowestUnused, Creates, Holds, Puts, PutsEach, with_zeros}
 
 pub nothing_there : {X : Type 0} (found : Option X) → found ≡ None → IsSome found → ⊥
 nothing_there {X} found none some = let no : IsSome {T = X} None = subst IsSome none some in false≢true no

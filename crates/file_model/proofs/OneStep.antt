@@ -5,7 +5,7 @@ use Rattle.nesc_base.specs.declared.host.HostAnswer.{HostAnswer}
 use Rattle.nesc_base.specs.declared.numbers.FnNo.{FnNo}
 use Rattle.nesc_base.specs.declared.word.Word.{Word}
 use Rattle.nesc_base.specs.declared.word.Word.TheVariants.{T, G, H, I}
-use Rattle.file_model.specs.Files.{IsFileSet}
+use Rattle.nesc_base.specs.Files.{IsFileSet}
 use Rattle.file_model.specs.Handlings.{Handles}
 use Rattle.file_model.specs.HostCommands.{HostStep}
 use Rattle.file_model.specs.Laws.{HasOneStep}

@@ -9,7 +9,8 @@ use Rattle.nesc_base.specs.declared.request.Request.{Request}
 use Rattle.nesc_base.specs.declared.request.Request.TheVariants.{Read, Write}
 use Rattle.nesc_base.specs.declared.word.Word.{Word}
 use Rattle.nesc_base.specs.declared.word.Word.TheVariants.{T, G, H, I}
-use Rattle.file_model.specs.Files.{Files, IsFileSet, PutsEach, file_at, unheld}
+use Rattle.nesc_base.specs.Files.{Files, IsFileSet, file_at}
+use Rattle.file_model.specs.Files.{PutsEach, unheld}
 use Rattle.file_model.specs.Functions.{Attached}
 use Rattle.file_model.specs.Handlings.{Handles, HoldsAll, wanted}
 use Rattle.file_model.specs.HostCommands.{AttachStep, HostStep}

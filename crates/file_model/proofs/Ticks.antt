@@ -11,7 +11,8 @@ use Rattle.nesc_base.specs.declared.request.Request.{Request}
 use Rattle.nesc_base.specs.declared.request.Request.TheVariants.{Read, Write}
 use Rattle.nesc_base.specs.Requests.{blocks_of}
 use Rattle.nesc_base.specs.Script.{with_numbered}
-use Rattle.file_model.specs.Files.{File, Files, Puts, holds, read}
+use Rattle.nesc_base.specs.Files.{File, Files}
+use Rattle.file_model.specs.Files.{Puts, holds, read}
 use Rattle.file_model.specs.Functions.{Attached, next_runnable}
 use Rattle.file_model.specs.Misses.{MissLaw, ShowsPlace}
 use Rattle.file_model.specs.State.{State}

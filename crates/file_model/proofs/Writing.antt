@@ -3,7 +3,8 @@ use Rattle.std.proofs.Common.{◌≡◌, ◌≢◌, ℕ, ◌+◌, List, [], ◌�
 use Rattle.std.specs.FinMap.{get, insert}
 use Rattle.std.proofs.lemmas.Bool.{cases_eq}
 use Rattle.nesc_base.specs.declared.block.Block.{Block}
-use Rattle.file_model.specs.Files.{Body, File, Files, Puts, PutsEach}
+use Rattle.nesc_base.specs.Files.{Body, File, Files}
+use Rattle.file_model.specs.Files.{Puts, PutsEach}
 use Rattle.file_model.specs.PlainFiles.{AreHeld}
 use Rattle.file_model.proofs.Maps.{get-insert_same, get-insert_other}
 

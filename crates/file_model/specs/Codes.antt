@@ -3,7 +3,7 @@ use Rattle.std.specs.Prelude.{ℕ, List, refl}
 use Rattle.std.specs.Coded.{Coded, code_by, coded×, coded_list, coded_ℕ}
 use Rattle.std.specs.FinMap as map
 use Rattle.nesc_base.specs.declared.block.Block.{Block}
-use Rattle.file_model.specs.Files.{Body, File, Files}
+use Rattle.nesc_base.specs.Files.{Body, File, Files}
 
 -- a block as its bytes
 abbrev pub coded_block : Coded Block

@@ -1,7 +1,8 @@
 -- A handling: the host holds the blocks that a function waits for.
 use Rattle.std.specs.Prelude.{◌≡◌, ℕ, nat_lt, List, [], ◌∷◌, length, filter, Some, None}
 use Rattle.nesc_base.specs.declared.request.Miss.{Miss}
-use Rattle.file_model.specs.Files.{File, Files, Changes, file_at, hold, unheld}
+use Rattle.nesc_base.specs.Files.{File, Files, file_at}
+use Rattle.file_model.specs.Files.{Changes, hold, unheld}
 use Rattle.nesc_base.specs.Script.{numbered, with_numbered}
 use Rattle.file_model.specs.Functions.{Attached, Function, waiting_of}
 use Rattle.file_model.specs.State.{State}

@@ -8,7 +8,8 @@ use Rattle.nesc_base.specs.declared.host.HostAnswer.TheVariants.{Ok, Exists, NoS
 use Rattle.nesc_base.specs.Script.{numbered, with_numbered}
 use Rattle.file_model.specs.Functions.{Function, fresh, is_off, is_taken}
 use Rattle.file_model.specs.State.{State}
-use Rattle.file_model.specs.Files.{File, Files, HasName, IsUnnamed, IsFull, Changes, create, hold, PutsEach, unheld, read_from}
+use Rattle.nesc_base.specs.Files.{File, Files}
+use Rattle.file_model.specs.Files.{HasName, IsUnnamed, IsFull, Changes, create, hold, PutsEach, unheld, read_from}
 
 -- a file has the name, and so many blocks from v on do not all lie below its length
 abbrev pub IsOutside : Files → List ℕ → ℕ → ℕ → Type 0

@@ -3,7 +3,8 @@ use Rattle.std.specs.Prelude.{◌≡◌, List}
 use Rattle.nesc_base.specs.declared.host.HostCommand.{HostCommand}
 use Rattle.nesc_base.specs.declared.host.HostAnswer.{HostAnswer}
 use Rattle.nesc_base.specs.declared.word.Word.{Word}
-use Rattle.file_model.specs.Files.{Files, IsFileSet, Change, Changes}
+use Rattle.nesc_base.specs.Files.{Files, IsFileSet}
+use Rattle.file_model.specs.Files.{Change, Changes}
 use Rattle.file_model.specs.HostCommands.{HostStep}
 use Rattle.file_model.specs.Machine.{Run, Step}
 use Rattle.file_model.specs.State.{State}

@@ -2,7 +2,8 @@
 use Rattle.std.specs.Prelude.{ℕ}
 use Rattle.std.specs.FinMap.{insert}
 use Rattle.nesc_base.specs.declared.block.Block.{Block}
-use Rattle.file_model.specs.Files.{File, unheld, with_zeros}
+use Rattle.nesc_base.specs.Files.{File}
+use Rattle.file_model.specs.Files.{unheld, with_zeros}
 
 -- the file that holds this block at v
 abbrev pub with_block : File → ℕ → Block → File

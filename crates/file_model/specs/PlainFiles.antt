@@ -1,7 +1,7 @@
 -- What a write of several blocks needs.
 use Rattle.std.specs.Prelude.{ℕ, ◌+◌, ◌<◌, ◌≤◌, IsSome, IsSomeAnd}
 use Rattle.std.specs.FinMap.{get}
-use Rattle.file_model.specs.Files.{Files}
+use Rattle.nesc_base.specs.Files.{Files}
 
 -- the file of this number holds each of n blocks from v on
 abbrev pub AreHeld : Files → ℕ → ℕ → ℕ → Type 0

@@ -2,7 +2,7 @@
 use Rattle.std.specs.Prelude.{ℕ, List, length, replicate}
 use Rattle.std.specs.FinMap.{empty}
 use Rattle.nesc_base.specs.Script.{Script}
-use Rattle.file_model.specs.Files.{Files}
+use Rattle.nesc_base.specs.Files.{Files}
 use Rattle.file_model.specs.Functions.{Function, off}
 
 pub record State : Type 0 where

@@ -10,7 +10,8 @@ use Rattle.nesc_base.specs.declared.request.Queued.{Queued}
 use Rattle.nesc_base.specs.declared.request.Reply.{Reply}
 use Rattle.nesc_base.specs.declared.request.Request.{Request}
 use Rattle.nesc_base.specs.declared.request.Request.TheVariants.{Read, Write}
-use Rattle.file_model.specs.Files.{File, Files, Changes, file_at, holds, put, read}
+use Rattle.nesc_base.specs.Files.{File, Files, file_at}
+use Rattle.file_model.specs.Files.{Changes, holds, put, read}
 use Rattle.nesc_base.specs.Requests.{first_of, blocks_of, is_write}
 use Rattle.nesc_base.specs.Script.{numbered, with_numbered}
 use Rattle.file_model.specs.Functions.{Attached, Function, next_runnable}

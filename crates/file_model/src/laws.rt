@@ -1,7 +1,8 @@
 ghost use Rattle.std.specs.FinMap.{empty};
 ghost use Rattle.nesc_base.specs.declared.host.HostCommand.{HostCommand};
 ghost use Rattle.nesc_base.specs.declared.word.Word.{Word};
-ghost use Rattle.file_model.specs.Files.{Change, IsFileSet};
+ghost use Rattle.nesc_base.specs.Files.{IsFileSet};
+ghost use Rattle.file_model.specs.Files.{Change};
 ghost use Rattle.file_model.specs.Laws.{HasOneAnswer, HasOneStep, IsAnswered, IsNeverStuck, KeepsFileSets, KeepsSets};
 ghost use Rattle.file_model.specs.State.{State};
 

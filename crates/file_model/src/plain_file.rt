@@ -19,7 +19,7 @@ pub struct PlainFile {
 
 impl Model for PlainFile {
     ghost use Rattle.std.specs.FinMap.{from_entries};
-    ghost use Rattle.file_model.specs.Files.{File};
+    ghost use Rattle.nesc_base.specs.Files.{File};
     ghost use Rattle.file_model.specs.Codes.{coded_file};
 
     ghost Value = { File };

@@ -1,7 +1,8 @@
 ghost use Rattle.std.specs.Prelude.{◌≡◌, ◌+◌, ◌-◌, ◌^◌, ◌<◌, ◌≤◌, length, IfSome, IsSome, IsSomeAnd, MatchOption, OnErr, OnOk};
 ghost use Rattle.std.specs.FinMap as map;
 ghost use Rattle.std.specs.Option.{option_copied};
-ghost use Rattle.file_model.specs.Files.{Changes, HasName, IsFileSet, IsFull, IsLowestUnused, IsUnnamed, PutsEach, create, hold, put, unheld};
+ghost use Rattle.nesc_base.specs.Files.{IsFileSet};
+ghost use Rattle.file_model.specs.Files.{Changes, HasName, IsFull, IsLowestUnused, IsUnnamed, PutsEach, create, hold, put, unheld};
 ghost use Rattle.file_model.specs.PlainFiles.{AreHeld};
 
 use crate::PlainFile;
@@ -22,7 +23,7 @@ pub struct PlainFiles {
 impl Model for PlainFiles {
     ghost use Rattle.std.specs.FinMap.{from_entries};
     ghost use Rattle.file_model.specs.Codes.{coded_files};
-    ghost use Rattle.file_model.specs.Files.{Files, IsFileSet};
+    ghost use Rattle.nesc_base.specs.Files.{Files, IsFileSet};
 
     ghost Value = { Files };
 

@@ -1,7 +1,11 @@
 pub mod Block
 pub mod BlockText
+pub mod Disk
 pub mod Fault
+pub mod Files
+pub mod Geometry
 pub mod Name
+pub mod NameFields
 pub mod Requests
 pub mod Script
 pub mod Sink

@@ -3,6 +3,8 @@
 
 mod block;
 mod blocks;
+mod disk;
+mod geometry;
 mod host;
 mod memory;
 mod name;
@@ -14,6 +16,8 @@ mod word;
 
 pub use block::{BLOCK_BYTES, Block};
 pub use blocks::{Blocks, MOST_BLOCKS};
+pub use disk::{Disk, DiskFault};
+pub use geometry::Geometry;
 pub use host::{HostAnswer, HostCommand};
 pub use memory::NoMemory;
 pub use name::{LONGEST_NAME, Name};

@@ -1,4 +1,4 @@
-ghost use Rattle.std.specs.Prelude.{◌≡◌, ◌≤◌, IsTrue, List, ℕ, take};
+ghost use Rattle.std.specs.Prelude.{◌≡◌, ◌≤◌, ◌-◌, ◌++◌, IsTrue, length, replicate};
 ghost use Rattle.std.specs.List.{list_all};
 ghost use Rattle.nesc_base.specs.Name.{is_name, is_name_byte, name_of};
 
@@ -8,18 +8,28 @@ use std::marker::Model;
 pub const LONGEST_NAME: usize = 24;
 
 /// A file's name: 1 to 24 bytes, each of them one of a-z, 0-9, `_`, `-` and `.`.
-#[derive(Debug, Drop)]
+#[derive(Clone, Copy, Debug)]
 pub struct Name {
     bytes: [u8; LONGEST_NAME],
     len: usize,
 }
 
 impl Model for Name {
+    ghost use Rattle.std.specs.Prelude.{◌≡◌, ◌≤◌, ◌-◌, ◌++◌, IsTrue, List, ℕ, drop, length, replicate, take};
+    ghost use Rattle.nesc_base.specs.Name.{is_name};
+    ghost use Rattle.nesc_base.specs.NameFields.{counted_back, padded_back};
+
     ghost Value = { List ℕ };
 
     ghost view = { λ name. take name.len name.bytes };
 
-    ghost invariant = { λ name. (name.len ≤ 24) × IsTrue (is_name (take name.len name.bytes)) };
+    ghost inverse = { λ bytes. record { bytes = bytes ++ replicate (24 - length bytes) 0; len = length bytes } };
+
+    ghost inverse_ok = { λ name kept i. record { bytes = padded_back name.bytes name.len kept.1 kept.2 i; len = counted_back name.bytes name.len kept.1 i } };
+
+    // Zeros fill the rest, so that a name's bytes say all of it.
+    ghost invariant = { λ name. (name.len ≤ 24) × (name.len ≤ length name.bytes)
+        × (drop name.len name.bytes ≡ replicate (24 - name.len) 0) × IsTrue (is_name (take name.len name.bytes)) };
 }
 
 fn is_name_byte(b: u8) -> bool
@@ -40,6 +50,16 @@ fn is_name(bytes: &[u8]) -> bool
     1 <= bytes.len() && bytes.len() <= LONGEST_NAME && are_name_bytes(bytes)
 }
 
+// The bytes, with zeros behind them.
+fn padded(bytes: &[u8]) -> [u8; LONGEST_NAME]
+    requires { length bytes.now ≤ 24 }
+    ensures { result ≡ bytes.now ++ replicate (24 - length bytes.now) 0 }
+{
+    let mut padded = [0; LONGEST_NAME];
+    padded[..bytes.len()].copy_from_slice(bytes);
+    padded
+}
+
 impl Name {
     /// The name that these bytes are, or `None` where they are none.
     pub fn read(bytes: &[u8]) -> Option<Name>
@@ -48,10 +68,10 @@ impl Name {
         if !is_name(bytes) {
             return None;
         }
-        let len = bytes.len();
-        let mut padded = [0; LONGEST_NAME];
-        padded[..len].copy_from_slice(bytes);
-        Some(Name { bytes: padded, len })
+        Some(Name {
+            bytes: padded(bytes),
+            len: bytes.len(),
+        })
     }
 
     /// The bytes of the name.

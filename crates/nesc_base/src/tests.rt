@@ -1,4 +1,4 @@
-use crate::{Block, Blocks, LONGEST_NAME, Name};
+use crate::{Block, Blocks, Geometry, LONGEST_NAME, Name};
 use std::test::Fail;
 
 #[test]
@@ -21,4 +21,30 @@ fn blocks(rt: HostRuntime) -> Result<(), Fail> {
     assert_eq!(rt; blocks.get(62).0[1023], 0);
     assert_eq!(rt; blocks.get(63).0[1023], 7);
     Ok(())
+}
+
+#[test]
+fn parts_of_images(rt: HostRuntime) {
+    let sizes = [(16, 64), (4_096, 256), (65_536, 1_024)];
+    let parts = [
+        (1, 66, 69, 205, 273, 274, 275, 291),
+        (2, 289, 293, 877, 1_169, 1_170, 1_202, 5_298),
+        (7, 1_537, 1_546, 4_636, 6_181, 6_182, 6_694, 72_230),
+    ];
+    for ((blocks, slack), part) in sizes.into_iter().zip(parts) {
+        let geometry = Geometry {
+            version: 1,
+            blocks,
+            slack,
+        };
+        assert_eq!(rt; geometry.list_blocks(), part.0);
+        assert_eq!(rt; geometry.slot_room(), part.1);
+        assert_eq!(rt; geometry.slot_at(1), 1);
+        assert_eq!(rt; geometry.slot_at(2), part.2);
+        assert_eq!(rt; geometry.slot_at(4), part.3);
+        assert_eq!(rt; geometry.table_at(), part.4);
+        assert_eq!(rt; geometry.map_at(), part.5);
+        assert_eq!(rt; geometry.area_from(), part.6);
+        assert_eq!(rt; geometry.total(), part.7);
+    }
 }

@@ -1,4 +1,6 @@
 pub mod Count
+pub mod MemDisk
+pub mod MemDiskLaws
 pub mod MemSink
 pub mod MemSource
 pub mod SlowSink

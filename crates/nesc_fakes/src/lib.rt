@@ -1,6 +1,7 @@
-//! Sources and sinks in memory: some fail at the calls that they are told, some move few bytes a call.
+//! Sources, sinks and a disk in memory: some fail at the calls that they are told, some move few bytes a call.
 #![tactic(auto)]
 
+mod mem_disk;
 mod mem_sink;
 mod mem_source;
 mod rest;
@@ -9,6 +10,7 @@ mod slow_source;
 #[cfg(test)]
 mod tests;
 
+pub use mem_disk::MemDisk;
 pub use mem_sink::MemSink;
 pub use mem_source::MemSource;
 pub use slow_sink::SlowSink;

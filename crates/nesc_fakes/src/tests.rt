@@ -1,7 +1,7 @@
-ghost use Rattle.std.specs.Prelude.{◌<◌, length};
+ghost use Rattle.std.specs.Prelude.{◌≡◌, ◌<◌, length};
 
-use crate::{MemSink, MemSource, SlowSink, SlowSource};
-use nesc_base::{ReadFault, Sink, Source, WriteFault};
+use crate::{MemDisk, MemSink, MemSource, SlowSink, SlowSource};
+use nesc_base::{Block, Disk, DiskFault, ReadFault, Sink, Source, WriteFault};
 use std::test::Fail;
 
 fn read<S: Source>(source: &mut S, into: &mut [u8]) -> Result<usize, ReadFault>
@@ -59,4 +59,97 @@ fn slow_sink_takes_few_bytes(rt: HostRuntime) {
     assert_eq!(rt; write(&mut sink, b""), Ok(0));
     assert_eq!(rt; write(&mut sink, b"c"), Ok(1));
     assert_eq!(rt; sink.bytes(), b"abc".as_slice());
+}
+
+fn filled(byte: u8) -> Block {
+    Block([byte; 1024])
+}
+
+fn write_block<D: Disk>(disk: &mut D, at: u32, byte: u8) -> Result<(), DiskFault>
+    requires { at < (D.known disk.old).size }
+    ensures { (D.known disk.new).size ≡ (D.known disk.old).size }
+{
+    disk.write(at, &filled(byte))
+}
+
+#[test]
+fn disk_reads_and_fails_where_listed(rt: HostRuntime) -> Result<(), Fail> {
+    let blocks = [filled(1), filled(2)].to_vec(rt.alloc())?;
+    let mut disk = MemDisk::new(
+        rt.alloc(),
+        blocks,
+        [2].to_vec(rt.alloc())?,
+        [1].to_vec(rt.alloc())?,
+    );
+    let mut block = Block::zero();
+    assert_eq!(rt; disk.blocks(), 2);
+    assert_eq!(rt; disk.read(1, &mut block), Ok(()));
+    assert_eq!(rt; block, filled(2));
+    assert_eq!(rt; disk.read(0, &mut block), Err(DiskFault));
+    assert_eq!(rt; block, filled(2));
+    assert_eq!(rt; write_block(&mut disk, 0, 3), Err(DiskFault));
+    assert_eq!(rt; disk.contents(), [filled(1), filled(2)].as_slice());
+    assert_eq!(rt; write_block(&mut disk, 0, 3), Ok(()));
+    assert_eq!(rt; disk.contents(), [filled(3), filled(2)].as_slice());
+    Ok(())
+}
+
+fn leaves(disk: &MemDisk, clock: u64, bytes: [u8; 3]) -> bool {
+    disk.could_leave(
+        clock,
+        &[filled(bytes[0]), filled(bytes[1]), filled(bytes[2])],
+    )
+}
+
+#[test]
+fn disk_leaves_what_no_sync_has_made_sure_of(rt: HostRuntime) -> Result<(), Fail> {
+    let blocks = [filled(0), filled(0), filled(0)].to_vec(rt.alloc())?;
+    let mut disk = MemDisk::new(
+        rt.alloc(),
+        blocks,
+        Vec::new(rt.alloc()),
+        [4].to_vec(rt.alloc())?,
+    );
+    assert!(rt; leaves(&disk, 0, [0, 0, 0]) && !leaves(&disk, 0, [0, 6, 0]));
+
+    assert_eq!(rt; write_block(&mut disk, 1, 7), Ok(()));
+    assert!(rt;
+        leaves(&disk, 1, [0, 7, 0]) && leaves(&disk, 1, [0, 6, 0]) && !leaves(&disk, 1, [6, 7, 0])
+    );
+
+    assert_eq!(rt; disk.sync(), Ok(()));
+    assert!(rt; leaves(&disk, 2, [0, 7, 0]) && !leaves(&disk, 2, [0, 6, 0]));
+
+    assert_eq!(rt; write_block(&mut disk, 2, 8), Ok(()));
+    assert_eq!(rt; disk.sync(), Err(DiskFault));
+    assert!(rt;
+        leaves(&disk, 4, [0, 7, 8]) && leaves(&disk, 4, [0, 7, 6]) && !leaves(&disk, 4, [0, 6, 8])
+    );
+
+    assert_eq!(rt; write_block(&mut disk, 1, 9), Ok(()));
+    assert_eq!(rt; disk.clock(), 5);
+    assert_eq!(rt;
+        disk.contents(),
+        [filled(0), filled(9), filled(8)].as_slice()
+    );
+
+    // what each moment could have left, by the clock, and nothing yet at a clock value to come
+    for (clock, bytes, could) in [
+        (0, [0, 0, 0], true),
+        (0, [0, 7, 0], false),
+        (1, [0, 6, 0], true),
+        (1, [0, 7, 8], false),
+        (2, [0, 7, 0], true),
+        (2, [0, 9, 0], false),
+        (3, [0, 7, 6], true),
+        (3, [0, 9, 8], false),
+        (4, [0, 7, 6], true),
+        (4, [0, 9, 8], false),
+        (5, [0, 6, 6], true),
+        (5, [6, 9, 8], false),
+        (6, [0, 9, 8], false),
+    ] {
+        assert_eq!(rt; leaves(&disk, clock, bytes), could, "{bytes:?} at {clock}");
+    }
+    Ok(())
 }

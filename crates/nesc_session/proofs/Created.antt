@@ -7,7 +7,8 @@ use Rattle.std.specs.Ordering.{nat_cmp}
 use Rattle.std.specs.Cmp.{nat_cmp_total}
 use Rattle.std.specs.FinMap.{FinMap, from_entries, from_entries_push, get-from_entries, get, insert, empty, get-empty, nat_cmp-IsAntisymmetric, same_map}
 use Rattle.nesc_base.specs.declared.block.Block.{Block}
-use Rattle.file_model.specs.Files.{IsFull, IsLowestUnused, IsUnnamed, Creates, most_files}
+use Rattle.nesc_base.specs.Files.{most_files}
+use Rattle.file_model.specs.Files.{IsFull, IsLowestUnused, IsUnnamed, Creates}
 use Rattle.nesc_session.specs.declared.files.FileEntry.{FileEntry}
 use Rattle.nesc_session.specs.declared.files.held.Place.{Place}
 use Rattle.nesc_session.specs.HeldBlocks.{place_cmp}

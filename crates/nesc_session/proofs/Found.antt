@@ -10,7 +10,8 @@ use Rattle.std.specs.Option.{option_map}
 use Rattle.std.specs.Str.{bytes_eq}
 use Rattle.std.specs.FinMap.{FinMap}
 use Rattle.nesc_base.specs.declared.block.Block.{Block}
-use Rattle.file_model.specs.Files.{File, HasName, IsUnnamed}
+use Rattle.nesc_base.specs.Files.{File}
+use Rattle.file_model.specs.Files.{HasName, IsUnnamed}
 use Rattle.nesc_session.specs.declared.files.FileEntry.{FileEntry}
 use Rattle.nesc_session.specs.HeldBlocks.{place_cmp}
 use Rattle.nesc_session.specs.FilesInMemory.{FilesInMemory, entry_at, file_of, files_of}

@@ -6,7 +6,8 @@ use Rattle.std.proofs.lemmas.Option.{same_Some}
 use Rattle.std.specs.List.{AllByRecursion, IsDistinct}
 use Rattle.std.specs.FinMap.{get, insert}
 use Rattle.nesc_base.specs.Block.{zero_block}
-use Rattle.file_model.specs.Files.{Body, File, Files, file_at, holds, with_zeros}
+use Rattle.nesc_base.specs.Files.{Body, File, Files, file_at}
+use Rattle.file_model.specs.Files.{holds, with_zeros}
 use Rattle.file_model.specs.Handlings.{HoldsAll}
 use Rattle.nesc_session.specs.FilesInMemory.{Writes}
 use Rattle.nesc_session.proofs.Puts.{All-range, IsDistinct-range, none_from, get-with_zeros_other}

@@ -8,7 +8,8 @@ use Rattle.nesc_base.specs.declared.host.HostCommand.{HostCommand}
 use Rattle.nesc_base.specs.declared.host.HostCommand.TheVariants.{Create, Put, Get}
 use Rattle.nesc_base.specs.declared.host.HostAnswer.{HostAnswer}
 use Rattle.nesc_base.specs.declared.host.HostAnswer.TheVariants.{Ok, Exists, NoSlot, NoFile, Range, Got}
-use Rattle.file_model.specs.Files.{Change, Changes, File, Files, PutsEach, create, file_at, hold, holds, put}
+use Rattle.nesc_base.specs.Files.{File, Files, file_at}
+use Rattle.file_model.specs.Files.{Change, Changes, PutsEach, create, hold, holds, put}
 use Rattle.file_model.specs.Handlings.{HoldsAll}
 use Rattle.file_model.specs.HostCommands.{FileStep}
 use Rattle.nesc_session.specs.Room.{KeepsHeld}

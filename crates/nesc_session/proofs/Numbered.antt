@@ -7,7 +7,8 @@ use Rattle.std.specs.Cmp.{nat_cmp_total}
 use Rattle.std.specs.Option.{option_map}
 use Rattle.std.specs.FinMap.{FinMap, contains_key, empty, get, get-empty, find, entries, get-entries, get-from_entries}
 use Rattle.nesc_base.specs.declared.block.Block.{Block}
-use Rattle.file_model.specs.Files.{File, file_at, holds}
+use Rattle.nesc_base.specs.Files.{File, file_at}
+use Rattle.file_model.specs.Files.{holds}
 use Rattle.nesc_session.specs.declared.files.FileEntry.{FileEntry}
 use Rattle.nesc_session.specs.declared.files.held.Place.{Place}
 use Rattle.nesc_session.specs.HeldBlocks.{place_cmp, is_same_place}

@@ -8,7 +8,8 @@ use Rattle.std.specs.Cmp.{nat_cmp_total}
 use Rattle.std.specs.FinMap.{get, insert, nat_cmp-IsAntisymmetric, same_map}
 use Rattle.nesc_base.specs.declared.block.Block.{Block}
 use Rattle.nesc_base.specs.Block.{zero_block}
-use Rattle.file_model.specs.Files.{Body, File, Files, HasName, holds, unheld, with_zeros, Puts, PutsEach, file_at}
+use Rattle.nesc_base.specs.Files.{Body, File, Files, file_at}
+use Rattle.file_model.specs.Files.{HasName, holds, unheld, with_zeros, Puts, PutsEach}
 use Rattle.file_model.specs.HostCommands.{PutsBlocks}
 use Rattle.nesc_session.specs.FilesInMemory.{with_blocks, Writes}
 use Rattle.nesc_session.proofs.Numbered.{eqb_apart}

@@ -1,7 +1,8 @@
 -- Whether blocks lie below a file's length.
 use Rattle.std.proofs.Common.{◌≡◌, ℕ, ◌+◌, ◌<◌, ◌≤◌, true, false, nat_le, List, length, refl, ap, arith}
 use Rattle.std.proofs.lemmas.Bool.Decides.{nat_tests}
-use Rattle.file_model.specs.Files.{File, Files, HasName, file_at}
+use Rattle.nesc_base.specs.Files.{File, Files, file_at}
+use Rattle.file_model.specs.Files.{HasName}
 use Rattle.nesc_base.specs.declared.block.Block.{Block}
 use Rattle.nesc_base.specs.declared.host.HostCommand.TheVariants.{Put, Get}
 use Rattle.nesc_base.specs.declared.host.HostAnswer.{HostAnswer}

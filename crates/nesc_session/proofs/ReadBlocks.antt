@@ -6,7 +6,8 @@ use Rattle.std.specs.Option.{option_copied}
 use Rattle.std.specs.FinMap.{get}
 use Rattle.nesc_base.specs.declared.block.Block.{Block}
 use Rattle.nesc_base.specs.Block.{zero_block}
-use Rattle.file_model.specs.Files.{File, read, read_from}
+use Rattle.nesc_base.specs.Files.{File}
+use Rattle.file_model.specs.Files.{read, read_from}
 
 module _ (file : File) where
   -- what is held, or else the block of zeros, is what is read

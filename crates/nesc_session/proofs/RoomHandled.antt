@@ -9,7 +9,8 @@ use Rattle.nesc_base.specs.declared.request.Queued.{Queued}
 use Rattle.nesc_base.specs.declared.request.Request.{Request}
 use Rattle.nesc_base.specs.declared.request.Request.TheVariants.{Read, Write}
 use Rattle.nesc_base.specs.Requests.{blocks_of, first_of, is_write}
-use Rattle.file_model.specs.Files.{File, Files, file_at, holds, unheld, with_zeros}
+use Rattle.nesc_base.specs.Files.{File, Files, file_at}
+use Rattle.file_model.specs.Files.{holds, unheld, with_zeros}
 use Rattle.file_model.specs.Handlings.{HoldsAll, wanted}
 use Rattle.nesc_session.specs.FunctionInMemory.{WaitsForHead, attached_in}
 use Rattle.nesc_session.specs.Room.{KeepsHeld, room_at, room_attached, room_in}

@@ -5,7 +5,8 @@ use Rattle.std.specs.List.{range_with_len}
 use Rattle.nesc_base.specs.declared.request.Queued.{Queued}
 use Rattle.nesc_base.specs.declared.request.Request.{Request}
 use Rattle.nesc_base.specs.declared.request.Request.TheVariants.{Read, Write}
-use Rattle.file_model.specs.Files.{File, Files, file_at, holds, unheld}
+use Rattle.nesc_base.specs.Files.{File, Files, file_at}
+use Rattle.file_model.specs.Files.{holds, unheld}
 use Rattle.file_model.specs.Functions.{Attached, Function}
 use Rattle.nesc_session.specs.Room.{KeepsHeld, room_at, room_in, room_attached, room_of}
 use Rattle.nesc_session.proofs.Filters.{length-filter_within}

@@ -10,7 +10,7 @@ use Rattle.nesc_base.specs.declared.host.HostCommand.{HostCommand}
 use Rattle.nesc_base.specs.declared.host.HostCommand.TheVariants.{Create, Put, Get, Attach}
 use Rattle.nesc_base.specs.declared.request.Request.{Request}
 use Rattle.nesc_base.specs.declared.request.Request.TheVariants.{Read, Write}
-use Rattle.file_model.specs.Files.{Files}
+use Rattle.nesc_base.specs.Files.{Files}
 use Rattle.file_model.specs.Functions.{Attached, Function, off}
 use Rattle.file_model.specs.Submissions.{queueing}
 use Rattle.script_lang.specs.CommandsText.{blocks_in, blocks_in_all}

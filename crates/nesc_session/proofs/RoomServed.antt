@@ -5,7 +5,8 @@ use Rattle.nesc_base.specs.declared.request.Miss.{Miss}
 use Rattle.nesc_base.specs.declared.request.Queued.{Queued}
 use Rattle.nesc_base.specs.declared.request.Request.{Request}
 use Rattle.nesc_base.specs.declared.request.Request.TheVariants.{Read, Write}
-use Rattle.file_model.specs.Files.{File, Files, file_at, holds, unheld}
+use Rattle.nesc_base.specs.Files.{File, Files, file_at}
+use Rattle.file_model.specs.Files.{holds, unheld}
 use Rattle.file_model.specs.declared.line.How.{How}
 use Rattle.file_model.specs.declared.line.How.TheVariants.{Hole, Range, Walk}
 use Rattle.nesc_session.specs.FunctionInMemory.{attached_in}

@@ -12,7 +12,8 @@ use Rattle.nesc_base.specs.declared.request.Request.{Request}
 use Rattle.nesc_base.specs.declared.request.Request.TheVariants.{Read, Write}
 use Rattle.nesc_base.specs.Block.{zero_block}
 use Rattle.nesc_base.specs.Requests.{blocks_of, first_of, is_write}
-use Rattle.file_model.specs.Files.{Changes, Files, file_at, holds, put, read}
+use Rattle.nesc_base.specs.Files.{Files, file_at}
+use Rattle.file_model.specs.Files.{Changes, holds, put, read}
 use Rattle.file_model.specs.Functions.{Attached, Function}
 use Rattle.file_model.specs.Misses.{ShowsPlace}
 use Rattle.file_model.specs.Ticks.{Reaches, Serves, Turn, ended, file_of, is_last, replies_of, reply_of, served_of}

@@ -4,7 +4,8 @@ use Rattle.std.proofs.lemmas.Bool.Decides.{nat_tests}
 use Rattle.std.proofs.lemmas.Option.{slice_get-get_or}
 use Rattle.nesc_base.specs.Script.{Script, requests_of, with_numbered}
 use Rattle.nesc_base.specs.declared.request.Request.{Request}
-use Rattle.file_model.specs.Files.{Files, holds}
+use Rattle.nesc_base.specs.Files.{Files}
+use Rattle.file_model.specs.Files.{holds}
 use Rattle.file_model.specs.Functions.{Attached, Function, attached_of, in_turn, is_ready, is_runnable, next_runnable}
 use Rattle.file_model.specs.Handlings.{Handles}
 use Rattle.file_model.specs.Misses.{MissLaw, ShowsPlace}

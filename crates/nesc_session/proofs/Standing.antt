@@ -3,7 +3,8 @@ use Rattle.std.proofs.Common.{◌≡◌, ℕ, ◌<◌, true, [], Option, None, S
 use Rattle.std.proofs.lemmas.Bool.{false≢true}
 use Rattle.std.specs.Ordering.{nat_cmp}
 use Rattle.std.specs.FinMap.{empty, get, get-empty}
-use Rattle.file_model.specs.Files.{File, Files, file_at, holds}
+use Rattle.nesc_base.specs.Files.{File, Files, file_at}
+use Rattle.file_model.specs.Files.{holds}
 
 abbrev file_or : Option File → File
 file_or o = unwrap_or o (record { name = []; length = 0; body = empty })

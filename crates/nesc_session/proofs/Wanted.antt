@@ -6,7 +6,8 @@ use Rattle.std.proofs.lemmas.List.Elements.{filter-append}
 use Rattle.std.proofs.lemmas.List.FromFn.{length-range_with_len}
 use Rattle.std.specs.List.{filter, range_with_len}
 use Rattle.nesc_base.specs.declared.request.Miss.{Miss}
-use Rattle.file_model.specs.Files.{File, holds}
+use Rattle.nesc_base.specs.Files.{File}
+use Rattle.file_model.specs.Files.{holds}
 use Rattle.file_model.specs.Handlings.{wanted}
 use Rattle.nesc_session.proofs.Filters.{filter-filter, length-filter_le}
 

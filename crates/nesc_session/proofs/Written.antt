@@ -9,7 +9,7 @@ use Rattle.std.specs.Ordering.{nat_cmp, eq_by_cmp}
 use Rattle.std.specs.Cmp.{nat_cmp_total}
 use Rattle.std.specs.FinMap.{FinMap, get, insert, get-insert, nat_cmp-IsAntisymmetric, same_map}
 use Rattle.nesc_base.specs.declared.block.Block.{Block}
-use Rattle.file_model.specs.Files.{Body, File, Files}
+use Rattle.nesc_base.specs.Files.{Body, File, Files}
 use Rattle.nesc_session.specs.declared.files.FileEntry.{FileEntry}
 use Rattle.nesc_session.specs.declared.files.held.Place.{Place}
 use Rattle.nesc_session.specs.HeldBlocks.{place_cmp, is_same_place}

@@ -4,7 +4,8 @@ use Rattle.std.proofs.lemmas.Bool.{cases_eq, false≢true}
 use Rattle.std.specs.List.{filter, range_with_len}
 use Rattle.std.specs.FinMap.{get, insert, contains_key, empty}
 use Rattle.nesc_base.specs.Block.{zero_block}
-use Rattle.file_model.specs.Files.{Body, File, Files, Holds, file_at, holds, with_zeros}
+use Rattle.nesc_base.specs.Files.{Body, File, Files, file_at}
+use Rattle.file_model.specs.Files.{Holds, holds, with_zeros}
 use Rattle.nesc_session.proofs.Written.{get-insert_at, get-insert_here}
 
 some_kept : {A : Type 0} (b : Bool) (x : A) (o : Option A) → is_some o ≡ true → is_some (cond b (Some x) o) ≡ true

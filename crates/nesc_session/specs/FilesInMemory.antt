@@ -6,7 +6,8 @@ use Rattle.std.specs.FinMap.{FinMap, entries, from_entries, get, insert}
 use Rattle.nesc_base.specs.declared.block.Block.{Block}
 use Rattle.nesc_base.specs.declared.host.HostAnswer.{HostAnswer}
 use Rattle.nesc_base.specs.declared.host.HostAnswer.TheVariants.{NoFile, Range}
-use Rattle.file_model.specs.Files.{Body, File, Files, HasName, IsUnnamed, most_files}
+use Rattle.nesc_base.specs.Files.{Body, File, Files, most_files}
+use Rattle.file_model.specs.Files.{HasName, IsUnnamed}
 use Rattle.file_model.specs.HostCommands.{IsOutside}
 use Rattle.nesc_session.specs.declared.files.FileEntry.{FileEntry}
 use Rattle.nesc_session.specs.declared.files.held.Place.{Place}

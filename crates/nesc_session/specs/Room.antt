@@ -7,7 +7,8 @@ use Rattle.nesc_base.specs.declared.host.HostCommand.TheVariants.{Create, Put, G
 use Rattle.nesc_base.specs.declared.request.Queued.{Queued}
 use Rattle.nesc_base.specs.declared.request.Request.{Request}
 use Rattle.nesc_base.specs.declared.request.Request.TheVariants.{Read, Write}
-use Rattle.file_model.specs.Files.{File, Files, file_at, holds, unheld}
+use Rattle.nesc_base.specs.Files.{File, Files, file_at}
+use Rattle.file_model.specs.Files.{holds, unheld}
 use Rattle.file_model.specs.Functions.{Attached, Function}
 use Rattle.file_model.specs.State.{State}
 

@@ -5,7 +5,8 @@ use Rattle.nesc_base.specs.declared.numbers.FnNo.{FnNo}
 use Rattle.nesc_base.specs.declared.request.Miss.{Miss}
 use Rattle.nesc_base.specs.declared.request.Request.{Request}
 use Rattle.nesc_base.specs.Requests.{first_of, is_write}
-use Rattle.file_model.specs.Files.{Files, file_at, holds}
+use Rattle.nesc_base.specs.Files.{Files, file_at}
+use Rattle.file_model.specs.Files.{holds}
 use Rattle.file_model.specs.Functions.{Attached, Function, off}
 use Rattle.file_model.specs.Handlings.{HoldsAll, wanted}
 use Rattle.file_model.specs.Misses.{ShowsPlace}

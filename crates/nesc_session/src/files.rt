@@ -3,7 +3,8 @@ ghost use Rattle.std.specs.Prelude.{◌≡◌, ◌+◌, ◌<◌, ◌≤◌, IfOk
 ghost use Rattle.std.specs.Option.{option_copied};
 ghost use Rattle.std.specs.FinMap.{empty, get};
 ghost use Rattle.std.specs.Str.{bytes_eq};
-ghost use Rattle.file_model.specs.Files.{Changes, File, HasName, IsUnnamed, file_at, holds, put, read_from};
+ghost use Rattle.nesc_base.specs.Files.{File, file_at};
+ghost use Rattle.file_model.specs.Files.{Changes, HasName, IsUnnamed, holds, put, read_from};
 ghost use Rattle.file_model.specs.Handlings.{HoldsAll, wanted};
 ghost use Rattle.nesc_base.specs.declared.request.Kind.TheVariants.{Unmapped};
 ghost use Rattle.nesc_session.specs.Room.{KeepsHeld};

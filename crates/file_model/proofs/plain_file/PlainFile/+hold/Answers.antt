@@ -1,7 +1,7 @@
 use Rattle.std.proofs.Common.{sym, ap, ◌∙◌, ◌-◌, ◌+◌}
 use Rattle.std.specs.FinMap.{remove}
 use Rattle.nesc_base.specs.Block.{zero_block}
-use Rattle.file_model.specs.Files.{File}
+use Rattle.nesc_base.specs.Files.{File}
 use Rattle.file_model.specs.PlainFile.{with_held}
 use Rattle.file_model.proofs.Holding.{with_held-more, let_go-with_block}
 use Rattle.std.proofs.lemmas.Result.{on_ok_weaker, on_err_weaker}

@@ -2,7 +2,7 @@ use Rattle.std.proofs.Common.{ap, ◌∙◌}
 use Rattle.std.specs.FinMap.{from_entries}
 use Rattle.nesc_base.specs.declared.block.Block.{Block}
 use Rattle.nesc_base.specs.Block.{zero_block}
-use Rattle.file_model.specs.Files.{Body, File}
+use Rattle.nesc_base.specs.Files.{Body, File}
 use Rattle.file_model.specs.PlainFile.{with_block}
 use Rattle.file_model.proofs.Entries.{one_inserted}
 use Rattle.file_model.proofs.plain_file.PlainFile.hold_one.Goals as goal

@@ -1,6 +1,7 @@
 use Rattle.std.proofs.Common.{sym, ap, ◌∙◌}
 use Rattle.std.specs.Option.{is_some}
-use Rattle.file_model.specs.Files.{File, holds}
+use Rattle.nesc_base.specs.Files.{File}
+use Rattle.file_model.specs.Files.{holds}
 use Rattle.file_model.proofs.Entries.{get_entry}
 use Rattle.file_model.proofs.plain_file.PlainFile.holds.Goals as goal
 

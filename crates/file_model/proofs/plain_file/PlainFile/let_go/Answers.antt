@@ -1,6 +1,6 @@
 use Rattle.std.proofs.Common.{ap, ◌∙◌}
 use Rattle.std.specs.FinMap.{remove}
-use Rattle.file_model.specs.Files.{Body, File}
+use Rattle.nesc_base.specs.Files.{Body, File}
 use Rattle.file_model.proofs.Entries.{one_removed}
 use Rattle.file_model.proofs.plain_file.PlainFile.let_go.Goals as goal
 

@@ -2,7 +2,7 @@ use Rattle.std.proofs.Common.{◌≡◌, sym, ap, ◌∙◌, Option, Some, None,
 use Rattle.std.specs.FinMap.{get}
 use Rattle.std.specs.Option.{option_copied_mut}
 use Rattle.nesc_base.specs.declared.block.Block.{Block}
-use Rattle.file_model.specs.Files.{Body, File}
+use Rattle.nesc_base.specs.Files.{Body, File}
 use Rattle.file_model.specs.PlainFile.{with_block}
 use Rattle.file_model.proofs.Entries.{one_inserted, get_entry}
 use Rattle.file_model.proofs.plain_file.PlainFile.put.Goals as goal

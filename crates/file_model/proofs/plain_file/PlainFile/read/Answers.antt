@@ -1,7 +1,8 @@
 use Rattle.std.proofs.Common.{Option, sym, ap, ◌∙◌, unwrap_or}
 use Rattle.nesc_base.specs.declared.block.Block.{Block}
 use Rattle.nesc_base.specs.Block.{zero_block}
-use Rattle.file_model.specs.Files.{File, read}
+use Rattle.nesc_base.specs.Files.{File}
+use Rattle.file_model.specs.Files.{read}
 use Rattle.file_model.proofs.Entries.{get_entry}
 use Rattle.file_model.proofs.plain_file.PlainFile.read.Goals as goal
 

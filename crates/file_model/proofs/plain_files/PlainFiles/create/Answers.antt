@@ -1,6 +1,7 @@
 use Rattle.std.proofs.Common.{ap, ◌∙◌, subst}
 use Rattle.std.specs.FinMap.{from_entries, insert, empty}
-use Rattle.file_model.specs.Files.{Files, IsFileSet, Creates}
+use Rattle.nesc_base.specs.Files.{Files, IsFileSet}
+use Rattle.file_model.specs.Files.{Creates}
 use Rattle.file_model.proofs.Entries.{one_inserted}
 use Rattle.file_model.proofs.FileSets.{IsFileSet-Creates}
 use Rattle.file_model.proofs.plain_files.PlainFiles.create.Goals as goal

@@ -1,6 +1,6 @@
 use Rattle.std.proofs.Common.{sym, ap, ◌∙◌, subst}
 use Rattle.std.specs.FinMap.{get}
-use Rattle.file_model.specs.Files.{Files, IsFileSet}
+use Rattle.nesc_base.specs.Files.{Files, IsFileSet}
 use Rattle.file_model.proofs.Entries.{get_entry}
 use Rattle.file_model.proofs.plain_files.PlainFiles.file.Goals as goal
 

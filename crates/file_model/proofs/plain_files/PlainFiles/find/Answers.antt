@@ -1,6 +1,7 @@
 use Rattle.std.proofs.Common.{◌≡◌, sym, ap, ◌∙◌, subst, Some, None}
 use Rattle.std.specs.FinMap.{from_entries}
-use Rattle.file_model.specs.Files.{File, Files, HasName, IsUnnamed}
+use Rattle.nesc_base.specs.Files.{File, Files}
+use Rattle.file_model.specs.Files.{HasName, IsUnnamed}
 use Rattle.file_model.proofs.Entries.{get_entry}
 use Rattle.file_model.proofs.Finding.{unnamed_more, unnamed_all}
 use Rattle.std.proofs.lemmas.Bool.{false≢true}

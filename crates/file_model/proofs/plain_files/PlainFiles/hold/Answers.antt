@@ -1,7 +1,8 @@
 use Rattle.std.proofs.Common.{◌≡◌, ◌-◌, ◌≤◌, ap, sym, ◌∙◌, subst, Option, Some, IfSome, IsSomeAnd, arith}
 use Rattle.std.specs.FinMap.{from_entries, insert, get}
 use Rattle.std.proofs.lemmas.Result.{on_ok_weaker, on_err_weaker}
-use Rattle.file_model.specs.Files.{File, IsFileSet, Changes, hold, Holds, unheld}
+use Rattle.nesc_base.specs.Files.{File, IsFileSet}
+use Rattle.file_model.specs.Files.{Changes, hold, Holds, unheld}
 use Rattle.file_model.specs.PlainFile.{with_held}
 use Rattle.file_model.proofs.Changing.{is_lent, lent_stands, lent_inserted, IsSome-from_and, either_outcome}
 use Rattle.file_model.proofs.FileSets.{IsFileSet-Holds}

@@ -1,6 +1,6 @@
 use Rattle.std.proofs.Common.{ℕ, sym, subst, List}
 use Rattle.std.specs.FinMap.{from_entries}
-use Rattle.file_model.specs.Files.{File, IsFileSet}
+use Rattle.nesc_base.specs.Files.{File, IsFileSet}
 use Rattle.file_model.proofs.FileSets.{IsFileSet-empty}
 use Rattle.file_model.proofs.plain_files.PlainFiles.new.Goals as goal
 

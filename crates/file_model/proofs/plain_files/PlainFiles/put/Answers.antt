@@ -1,6 +1,7 @@
 use Rattle.std.proofs.Common.{ap, ◌∙◌, subst, Option, IsSome, IsSomeAnd}
 use Rattle.std.specs.FinMap.{from_entries, insert, get}
-use Rattle.file_model.specs.Files.{File, IsFileSet, Puts}
+use Rattle.nesc_base.specs.Files.{File, IsFileSet}
+use Rattle.file_model.specs.Files.{Puts}
 use Rattle.file_model.proofs.Changing.{is_lent, lent_stands, lent_inserted, IsSome-from_and}
 use Rattle.file_model.proofs.FileSets.{IsFileSet-Puts}
 use Rattle.file_model.proofs.plain_files.PlainFiles.put.Goals as goal

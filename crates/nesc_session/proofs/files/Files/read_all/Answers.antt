@@ -1,5 +1,6 @@
 use Rattle.std.proofs.Common.{◌≡◌, ◌+◌, ap, ◌∙◌, arith, length-set}
-use Rattle.file_model.specs.Files.{file_at, read}
+use Rattle.nesc_base.specs.Files.{file_at}
+use Rattle.file_model.specs.Files.{read}
 use Rattle.nesc_session.proofs.ReadBlocks.{read-unwrap_or, read_from-more}
 use Rattle.nesc_session.proofs.files.Files.read_all.Goals as goal
 

@@ -1,5 +1,6 @@
 use Rattle.std.proofs.Common.{◌≡◌, length, take}
-use Rattle.file_model.specs.Files.{file_at, read_from}
+use Rattle.nesc_base.specs.Files.{file_at}
+use Rattle.file_model.specs.Files.{read_from}
 use Rattle.nesc_session.proofs.files.Files.read_all.Given as goal
 
 abbrev pub invariant-loop-k : goal.invariant-loop-k

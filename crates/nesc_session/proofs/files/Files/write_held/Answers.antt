@@ -1,6 +1,7 @@
 use Rattle.std.proofs.Common.{◌≡◌, ◌≤◌, Bool, true, false, length, IsSome, is_some, refl, sym, ap, ◌∙◌}
 use Rattle.std.specs.FinMap.{get}
-use Rattle.file_model.specs.Files.{Files, put}
+use Rattle.nesc_base.specs.Files.{Files}
+use Rattle.file_model.specs.Files.{put}
 use Rattle.nesc_session.specs.declared.files.held.Place.{Place}
 use Rattle.nesc_session.specs.Room.{KeepsHeld}
 use Rattle.nesc_session.specs.FilesInMemory.{files_of}

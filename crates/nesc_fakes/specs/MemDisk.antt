@@ -1,0 +1,75 @@
+-- What a disk in memory knows of itself: what it reads as, and the calls that it was given.
+use Rattle.std.specs.Prelude.{◌≡◌, ℕ, ◌≤◌, ◌==◌, nat_lt, nat_le, ◌&&◌, ◌||◌, not, Bool, true, if◌then◌else◌, List, [], ◌∷◌, Contains, All, length, slice_get, slice_set}
+use Rattle.nesc_base.specs.declared.block.Block.{Block}
+use Rattle.nesc_base.specs.Disk.{Known}
+use Rattle.nesc_fakes.specs.declared.mem_disk.Call.{Call}
+use Rattle.nesc_fakes.specs.declared.mem_disk.Call.TheVariants.{Write, Sync}
+
+-- the disk: its calls stand in their order, and room says for how many more its list has memory
+pub record MemDiskState : Type 0 where
+  pub blocks : List Block
+  pub calls : List Call
+  pub clock : ℕ
+  pub reads : ℕ
+  pub faults : ℕ
+  pub read_fails : List ℕ
+  pub write_fails : List ℕ
+  pub room : ℕ
+
+-- where the clock stood after a call
+abbrev pub clock_of : Call → ℕ
+clock_of (Write clock at before) = clock
+clock_of (Sync clock done) = clock
+
+-- what holds of every one: its places have numbers, and no call is still to come
+pub record IsSound (blocks : List Block) (calls : List Call) (clock : ℕ) : Type 0 where
+  pub fits : length blocks ≤ 4294967295
+  pub by_now : All (λ call. clock_of call ≤ clock) calls
+
+-- a call is taken back if it is later than k
+abbrev pub without : ℕ → Call → List Block → List Block
+without k (Write clock at before) blocks = if nat_lt k clock then slice_set blocks at before else blocks
+without k (Sync clock done) blocks = blocks
+
+-- what it read as when the clock stood at k, if it reads as these blocks now: the later calls are taken back
+abbrev pub taken_back : ℕ → List Call → List Block → List Block
+taken_back k [] blocks = blocks
+taken_back k (call ∷ calls) blocks = without k call (taken_back k calls blocks)
+
+abbrev pub contents_at : MemDiskState → ℕ → List Block
+contents_at disk k = if k == disk.clock then disk.blocks else taken_back k disk.calls disk.blocks
+
+-- of these places, and of the one that a call writes, those that it leaves unsynced if it came up to clock k
+abbrev pub unsynced_by : ℕ → Call → List ℕ → List ℕ
+unsynced_by k (Write clock at before) places = if nat_le clock k then at ∷ places else places
+unsynced_by k (Sync clock done) places = if nat_le clock k && done then [] else places
+
+-- whether a place is among them, if it is among the places before
+abbrev pub is_unsynced_by : ℕ → ℕ → Call → Bool → Bool
+is_unsynced_by k at (Write clock place before) was = was || (nat_le clock k && place == at)
+is_unsynced_by k at (Sync clock done) was = was && not (nat_le clock k && done)
+
+-- the places that were written up to clock k and that no sync has made sure of since
+abbrev pub unsynced : ℕ → List Call → List ℕ → List ℕ
+unsynced k [] places = places
+unsynced k (call ∷ calls) places = unsynced k calls (unsynced_by k call places)
+
+-- what a stop can leave of these contents: the other places are as they were
+pub record IsImage (contents : List Block) (places : List ℕ) (image : List Block) : Type 0 where
+  pub whole : length image ≡ length contents
+  pub others : (at : ℕ) → ¬ Contains places at → slice_get image at ≡ slice_get contents at
+
+-- a stop while the clock stood at k
+pub record IsLeft (disk : MemDiskState) (k : ℕ) (image : List Block) : Type 0 where
+  pub by_now : k ≤ disk.clock
+  pub left : IsImage (contents_at disk k) (unsynced k disk.calls []) image
+
+abbrev pub known_of : MemDiskState → Known
+known_of disk = record {
+  size = length disk.blocks;
+  tells = true;
+  contents = disk.blocks;
+  clock = disk.clock;
+  left = IsLeft disk;
+  faults = disk.faults;
+}

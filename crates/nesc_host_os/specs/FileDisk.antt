@@ -1,0 +1,34 @@
+-- What a file as a disk is at a moment.
+use Rattle.std.specs.Prelude.{ℕ, ◌/◌, Bool, false, List, [], Option, min}
+use Rattle.nesc_base.specs.Disk.{Known}
+
+pub record FileDiskState (File : Type 0) : Type 0 where
+  -- where the file is
+  pub path : List ℕ
+  -- how many blocks it has
+  pub size : ℕ
+  -- there was no file, or an empty one
+  pub is_blank : Bool
+  -- the file, once it is open
+  pub file : Option File
+  -- the file is open for writing too
+  pub is_writable : Bool
+  -- how many writes have begun and syncs have ended
+  pub clock : ℕ
+  -- how many calls failed
+  pub faults : ℕ
+
+-- It does not tell what it holds or what a stop leaves.
+abbrev pub known_of : {File : Type 0} → FileDiskState File → Known
+known_of disk = record {
+  size = disk.size;
+  tells = false;
+  contents = [];
+  clock = disk.clock;
+  left = λ _ _. Unit {0};
+  faults = disk.faults;
+}
+
+-- how many blocks there are in so many bytes
+abbrev pub blocks_in : ℕ → ℕ
+blocks_in len = min (len / 1024) 4294967295
