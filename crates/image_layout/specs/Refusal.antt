@@ -1,0 +1,83 @@
+-- Why an image opens as nothing: the first cause, with its place.
+use Rattle.std.specs.Prelude.{◌≡◌, ◌⊎◌, ℕ, ◌+◌, ◌<◌, ◌≤◌, List, [], length, Option}
+use Rattle.nesc_base.specs.declared.block.Block.{Block}
+use Rattle.nesc_base.specs.declared.geometry.Geometry.{Geometry}
+use Rattle.nesc_base.specs.Geometry.{map_at, map_blocks, table_at, total}
+use Rattle.image_layout.specs.declared.fault.ImageFault.{ImageFault}
+use Rattle.image_layout.specs.declared.fault.ImageFault.TheVariants.{BadSuper, BadSize, BadList, BadTable, BadOwner, TwiceOwned}
+use Rattle.image_layout.specs.declared.table.TableEntry.{TableEntry}
+use Rattle.image_layout.specs.Opens.{IsDivided, IsMap, IsMapBlock, Repeats}
+use Rattle.image_layout.specs.Owners.{Owner}
+use Rattle.image_layout.specs.Slots.{AreOpen, LaidOver, Lays, block_at, list_at, list_of}
+use Rattle.image_layout.specs.Super.{IsSuperblock}
+use Rattle.image_layout.specs.Table.{IsTable}
+use Rattle.image_layout.specs.Targets.{IsListOf}
+
+-- block 0 is no superblock
+pub record LacksSuper (image : List Block) (place : ℕ) : Type 0 where
+  pub some : 1 ≤ length image
+  pub none : (geometry : Geometry) → ¬ IsSuperblock (block_at image 0) geometry
+  pub at : place ≡ 0
+
+-- there are fewer blocks than the superblock says, or none at all; the place is how many there are
+pub record LacksBlocks (image : List Block) (place : ℕ) : Type 0 where
+  pub few : (image ≡ []) ⊎ ((geometry : Geometry) × IsSuperblock (block_at image 0) geometry × (length image < total geometry))
+  pub at : place ≡ length image
+
+-- the first slot to be replayed that has no list
+pub record LacksList (image : List Block) (place : ℕ) : Type 0 where
+  pub geometry : Geometry
+  pub divided : IsDivided image geometry
+  pub before : ℕ
+  pub laid : List Block
+  pub over : LaidOver geometry image before laid
+  pub most : before < 4
+  pub opened : AreOpen geometry image (before + 1)
+  pub none : (targets : List ℕ) → ¬ IsListOf geometry (list_of geometry image (before + 1)) targets
+  pub at : place ≡ list_at geometry (before + 1)
+
+-- the table is none
+pub record LacksTable (image : List Block) (place : ℕ) : Type 0 where
+  pub geometry : Geometry
+  pub divided : IsDivided image geometry
+  pub laid : List Block
+  pub lays : Lays geometry image laid
+  pub none : (entries : List (Option TableEntry)) → ¬ IsTable (block_at laid (table_at geometry)) entries
+  pub at : place ≡ table_at geometry
+
+-- the first map block that is none for the files of the table
+pub record LacksOwners (image : List Block) (place : ℕ) : Type 0 where
+  pub geometry : Geometry
+  pub divided : IsDivided image geometry
+  pub laid : List Block
+  pub lays : Lays geometry image laid
+  pub entries : List (Option TableEntry)
+  pub table : IsTable (block_at laid (table_at geometry)) entries
+  pub b : ℕ
+  pub last : b < map_blocks geometry
+  pub before : (c : ℕ) → c < b → (owners : List (Option Owner)) × IsMapBlock geometry laid entries c owners
+  pub none : (owners : List (Option Owner)) → ¬ IsMapBlock geometry laid entries b owners
+  pub at : place ≡ map_at geometry + b
+
+-- the first data block whose owner an earlier one has
+pub record OwnsTwice (image : List Block) (owner : Owner) : Type 0 where
+  pub geometry : Geometry
+  pub divided : IsDivided image geometry
+  pub laid : List Block
+  pub lays : Lays geometry image laid
+  pub entries : List (Option TableEntry)
+  pub table : IsTable (block_at laid (table_at geometry)) entries
+  pub owners : List (Option Owner)
+  pub owned : IsMap geometry laid entries owners
+  pub k : ℕ
+  pub repeats : Repeats owners k owner
+  pub first : (j : ℕ) (earlier : Owner) → j < k → ¬ Repeats owners j earlier
+
+-- the image is refused with this fault
+abbrev pub IsRefused : List Block → ImageFault → Type 0
+IsRefused image (BadSuper place) = LacksSuper image place
+IsRefused image (BadSize place) = LacksBlocks image place
+IsRefused image (BadList place) = LacksList image place
+IsRefused image (BadTable place) = LacksTable image place
+IsRefused image (BadOwner place) = LacksOwners image place
+IsRefused image (TwiceOwned file v) = OwnsTwice image (file, v)
