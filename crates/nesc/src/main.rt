@@ -1,4 +1,4 @@
-//! The program `nesc`: it hands the words of the command line, the two files of the current folder and the standard
+//! The program `nesc`: it hands the words of the command line, the files of the current folder and the standard
 //! streams to `nesc_monitor::run`, and exits with the status that it answers.
 #![tactic(auto)]
 
@@ -7,7 +7,7 @@ ghost use Rattle.nesc_base.specs.Fault.{Rose};
 ghost use Rattle.nesc_base.specs.Sink.{Appends};
 
 use nesc_base::Sink;
-use nesc_host_os::{FileSource, StdSink};
+use nesc_host_os::{FileDisk, FileSource, StdSink};
 use nesc_monitor::{Status, run};
 use std::process::ExitCode;
 use std::rt::Env;
@@ -40,11 +40,15 @@ fn main(rt: HostRuntime) -> ExitCode {
     };
     let mut commands = FileSource::new(&rt, "commands.toml");
     let mut schedule = FileSource::new(&rt, "schedule.txt");
+    let mut image = FileDisk::new(&rt, "disk.img");
+    let mut spare = FileDisk::new(&rt, "spare.img");
     let status = run(
         rt.alloc(),
         words.as_slice(),
         &mut commands,
         &mut schedule,
+        &mut image,
+        &mut spare,
         &mut out,
         &mut err,
     );

@@ -1,5 +1,6 @@
 use crate::without_memory;
-use nesc_fakes::{MemSink, MemSource, SlowSink, SlowSource};
+use nesc_base::{Block, Disk};
+use nesc_fakes::{MemDisk, MemSink, MemSource, SlowSink, SlowSource};
 use nesc_monitor::{Status, run};
 use std::alloc::{AllocError, Global};
 use std::test::Fail;
@@ -12,11 +13,23 @@ struct Told {
     err: MemSink,
 }
 
-fn tell(alloc: Global, words: &[&str], commands: &str, schedule: &str) -> Result<Told, AllocError> {
+fn line_of(alloc: Global, words: &[&str]) -> Result<Vec<String>, AllocError> {
     let mut line = Vec::new(alloc);
     for word in words {
         line.push(String::from_str(alloc, word)?)?;
     }
+    Ok(line)
+}
+
+/// A disk of no blocks, of which nothing is asked.
+fn no_disk(alloc: Global) -> MemDisk {
+    MemDisk::new(alloc, Vec::new(alloc), Vec::new(alloc), Vec::new(alloc))
+}
+
+fn tell(alloc: Global, words: &[&str], commands: &str, schedule: &str) -> Result<Told, AllocError> {
+    let line = line_of(alloc, words)?;
+    let mut image = no_disk(alloc);
+    let mut spare = no_disk(alloc);
     let mut commands = MemSource::new(
         Vec::from_slice(alloc, commands.as_bytes())?,
         Vec::new(alloc),
@@ -32,6 +45,8 @@ fn tell(alloc: Global, words: &[&str], commands: &str, schedule: &str) -> Result
         line.as_slice(),
         &mut commands,
         &mut schedule,
+        &mut image,
+        &mut spare,
         &mut out,
         &mut err,
     );
@@ -59,13 +74,16 @@ fn tell_failing(alloc: Global, schedule: &str, fails: [&[u64]; 3]) -> Result<Tol
     );
     let mut out = MemSink::new(alloc, Vec::from_slice(alloc, out_fail)?);
     let mut err = MemSink::new(alloc, Vec::new(alloc));
-    let mut words = Vec::new(alloc);
-    words.push(String::from_str(alloc, "run")?)?;
+    let words = line_of(alloc, &["run"])?;
+    let mut image = no_disk(alloc);
+    let mut spare = no_disk(alloc);
     let status = run(
         alloc,
         words.as_slice(),
         &mut commands,
         &mut schedule,
+        &mut image,
+        &mut spare,
         &mut out,
         &mut err,
     );
@@ -114,8 +132,9 @@ fn want_of_memory_is_told(rt: HostRuntime) {
 #[test]
 fn pieces_of_one_byte_give_the_same(rt: HostRuntime) -> Result<(), Fail> {
     let alloc = rt.alloc();
-    let mut words = Vec::new(alloc);
-    words.push(String::from_str(alloc, "run")?)?;
+    let words = line_of(alloc, &["run"])?;
+    let mut image = no_disk(alloc);
+    let mut spare = no_disk(alloc);
     let mut commands = SlowSource::new(Vec::from_slice(alloc, GUEST_COMMANDS.as_bytes())?, 1);
     let mut schedule = SlowSource::new(Vec::from_slice(alloc, GUEST_SCHEDULE.as_bytes())?, 1);
     let mut out = SlowSink::new(alloc, 1);
@@ -125,6 +144,8 @@ fn pieces_of_one_byte_give_the_same(rt: HostRuntime) -> Result<(), Fail> {
         words.as_slice(),
         &mut commands,
         &mut schedule,
+        &mut image,
+        &mut spare,
         &mut out,
         &mut err,
     );
@@ -390,5 +411,134 @@ fn most_files_and_most_blocks(rt: HostRuntime) -> Result<(), Fail> {
     let told = tell(alloc, &["run"], commands.as_str(), schedule.as_str())?;
     assert_eq!(rt; told.status, Status::Done);
     assert_eq!(rt; told.out.bytes(), want.as_str().as_bytes());
+    Ok(())
+}
+
+/// What `make` answers over a disk of so many blocks, none of them zeros, of which these writes and syncs fail, and
+/// what the disk is then.
+fn make(
+    alloc: Global,
+    words: &[&str],
+    blocks: usize,
+    fails: &[u64],
+) -> Result<(Told, MemDisk), AllocError> {
+    let line = line_of(alloc, words)?;
+    let mut commands = MemSource::new(Vec::new(alloc), Vec::new(alloc));
+    let mut schedule = MemSource::new(Vec::new(alloc), Vec::new(alloc));
+    let old = vec![in alloc; Block([7; 1024]); blocks]?;
+    let mut image = MemDisk::new(alloc, old, Vec::new(alloc), Vec::from_slice(alloc, fails)?);
+    let mut spare = no_disk(alloc);
+    let mut out = MemSink::new(alloc, Vec::new(alloc));
+    let mut err = MemSink::new(alloc, Vec::new(alloc));
+    let status = run(
+        alloc,
+        line.as_slice(),
+        &mut commands,
+        &mut schedule,
+        &mut image,
+        &mut spare,
+        &mut out,
+        &mut err,
+    );
+    Ok((Told { status, out, err }, image))
+}
+
+#[test]
+fn an_image_is_made(rt: HostRuntime) -> Result<(), Fail> {
+    let alloc = rt.alloc();
+    for (words, blocks, out) in [
+        (["make", "--blocks", "16"].as_slice(), 291, "made 291\n"),
+        (
+            &["make", "--blocks", "016", "--slack", "64"],
+            291,
+            "made 291\n",
+        ),
+        (
+            &["make", "--blocks", "4096", "--slack", "256"],
+            5298,
+            "made 5298\n",
+        ),
+    ] {
+        let (told, image) = make(alloc, words, blocks, &[])?;
+        assert_eq!(rt; told.status, Status::Done, "at {words:?}");
+        assert_eq!(rt; told.out.bytes(), out.as_bytes());
+        assert!(rt; told.err.bytes().is_empty());
+        let made = image.contents();
+        assert!(rt;
+            made.first()
+                .is_some_and(|block| block.0.starts_with(b"NESCHOST"))
+        );
+        assert!(rt; made.get(1) == Some(&Block::zero()));
+        assert!(rt; made.get(2) == Some(&Block([7; 1024])));
+        assert!(rt; made.last() == Some(&Block::zero()));
+    }
+    Ok(())
+}
+
+#[test]
+fn each_failure_of_making_is_told(rt: HostRuntime) -> Result<(), Fail> {
+    let alloc = rt.alloc();
+    let words = ["make", "--blocks", "16", "--slack", "64"];
+    // Four gates, the table, the map, the last data block, a sync, the superblock and a sync.
+    for call in 1..=10 {
+        let (told, image) = make(alloc, &words, 291, &[call])?;
+        assert_eq!(rt; told.status, Status::Device, "at {call}");
+        assert!(rt; told.out.bytes().is_empty());
+        assert_eq!(rt; told.err.bytes(), b"nesc: device\n".as_slice());
+        assert_eq!(rt; image.clock(), call);
+    }
+    let (told, image) = make(alloc, &words, 291, &[11])?;
+    assert_eq!(rt; told.status, Status::Done);
+    assert_eq!(rt; image.clock(), 10);
+    let (told, image) = make(alloc, &words, 290, &[])?;
+    assert_eq!(rt; told.status, Status::Image);
+    assert!(rt; told.out.bytes().is_empty());
+    assert_eq!(rt; told.err.bytes(), b"nesc: image size 290\n".as_slice());
+    assert_eq!(rt; image.clock(), 0);
+    Ok(())
+}
+
+#[test]
+fn words_are_judged(rt: HostRuntime) -> Result<(), Fail> {
+    let alloc = rt.alloc();
+    for (words, status) in [
+        (["make", "--blocks", "16"].as_slice(), Status::Image),
+        (
+            &["make", "--blocks", "65536", "--slack", "1024"],
+            Status::Image,
+        ),
+        (&["make", "--blocks", "0000000000000000016"], Status::Image),
+        (&["make"], Status::Words),
+        (&["make", "--blocks"], Status::Words),
+        (&["make", "--blocks", "15"], Status::Words),
+        (&["make", "--blocks", "65537"], Status::Words),
+        (&["make", "--blocks", "-16"], Status::Words),
+        (&["make", "--blocks", "16 "], Status::Words),
+        (
+            &["make", "--blocks", "000000000000000000016"],
+            Status::Words,
+        ),
+        (&["make", "--blocks", "16", "--slack"], Status::Words),
+        (&["make", "--blocks", "16", "--slack", "63"], Status::Words),
+        (
+            &["make", "--blocks", "16", "--slack", "1025"],
+            Status::Words,
+        ),
+        (&["make", "--blocks", "16", "--blocks", "16"], Status::Words),
+        (&["make", "--slack", "64", "--blocks", "16"], Status::Words),
+        (&["make", "16"], Status::Words),
+        (&["run", "--blocks", "16"], Status::Words),
+    ] {
+        let (told, image) = make(alloc, words, 0, &[])?;
+        assert_eq!(rt; told.status, status, "at {words:?}");
+        assert!(rt; told.out.bytes().is_empty());
+        let line = if status == Status::Image {
+            "nesc: image size 0\n"
+        } else {
+            "nesc: words\n"
+        };
+        assert_eq!(rt; told.err.bytes(), line.as_bytes());
+        assert_eq!(rt; image.clock(), 0);
+    }
     Ok(())
 }

@@ -349,6 +349,16 @@ mod tests {
 
     const ONES: Block = Block([1; BLOCK_BYTES]);
 
+    fn path_of(rt: &HostRuntime, name: &str) -> Result<String, Fail> {
+        let folder = env::temp_dir(rt)?;
+        let process = process::id(rt.process());
+        Ok(format!(in rt.alloc(); "{}/file-disk-{name}-{process}", folder.as_str())?)
+    }
+
+    fn size_of(rt: &HostRuntime, path: &str) -> u32 {
+        FileDisk::new(rt, path).blocks()
+    }
+
     fn block_at(disk: &mut FileDisk<'_, HostRuntime>, at: u32) -> Result<Block, DiskFault> {
         let mut block = ONES;
         if at < disk.blocks() {
@@ -357,7 +367,7 @@ mod tests {
         Ok(block)
     }
 
-    fn write(disk: &mut FileDisk<'_, HostRuntime>, at: u32) -> Result<(), DiskFault> {
+    fn write_at(disk: &mut FileDisk<'_, HostRuntime>, at: u32) -> Result<(), DiskFault> {
         if at < disk.blocks() {
             disk.write(at, &ONES)?;
         }
@@ -365,64 +375,72 @@ mod tests {
     }
 
     #[test]
-    fn makes_the_file_of_a_blank_disk_at_its_first_write(rt: HostRuntime) -> Result<(), Fail> {
-        let folder = env::temp_dir(&rt)?;
-        let process = process::id(rt.process());
-        let path = format!(in rt.alloc(); "{}/file-disk-{process}", folder.as_str())?;
+    fn blank_disk_reads_zeros_and_makes_no_file(rt: HostRuntime) -> Result<(), Fail> {
+        let path = path_of(&rt, "blank")?;
         let mut disk = FileDisk::new(&rt, path.as_str());
         assert_eq!(rt; disk.blocks(), 4_194_304);
         assert_eq!(rt; block_at(&mut disk, 4_194_303), Ok(Block::zero()));
         assert_eq!(rt; disk.sync(), Ok(()));
         assert!(rt; !fs::exists(&rt, path.as_str())?);
-        let done = (write(&mut disk, 2), disk.sync());
-        let seen = [2, 1, 3].map(|at| block_at(&mut disk, at));
-        let again = FileDisk::new(&rt, path.as_str());
-        fs::remove_file(&rt, path.as_str())?;
-        assert_eq!(rt; done, (Ok(()), Ok(())));
-        assert_eq!(rt; seen, [Ok(ONES), Ok(Block::zero()), Ok(Block::zero())]);
-        assert_eq!(rt; disk.clock(), 3);
-        assert_eq!(rt; disk.blocks(), 4_194_304);
-        assert_eq!(rt; again.blocks(), 3);
         Ok(())
     }
 
     #[test]
-    fn keeps_to_the_whole_blocks_of_a_file(rt: HostRuntime) -> Result<(), Fail> {
-        let folder = env::temp_dir(&rt)?;
-        let process = process::id(rt.process());
-        let path = format!(in rt.alloc(); "{}/file-disk-blocks-{process}", folder.as_str())?;
-        let below = format!(in rt.alloc(); "{path}/file")?;
+    fn first_write_makes_the_file(rt: HostRuntime) -> Result<(), Fail> {
+        let path = path_of(&rt, "made")?;
+        let mut disk = FileDisk::new(&rt, path.as_str());
+        let done = (write_at(&mut disk, 2), disk.sync());
+        let seen = [2, 1, 3].map(|at| block_at(&mut disk, at));
+        let size = size_of(&rt, path.as_str());
+        fs::remove_file(&rt, path.as_str())?;
+        assert_eq!(rt; done, (Ok(()), Ok(())));
+        assert_eq!(rt; seen, [Ok(ONES), Ok(Block::zero()), Ok(Block::zero())]);
+        assert_eq!(rt; (disk.clock(), size), (2, 3));
+        Ok(())
+    }
+
+    #[test]
+    fn whole_blocks_are_counted(rt: HostRuntime) -> Result<(), Fail> {
+        let path = path_of(&rt, "counted")?;
         let bytes = [2; 1500];
         for (len, want) in [(0, 4_194_304), (1, 0), (1023, 0), (1024, 1), (1500, 1)] {
             fs::write(&rt, path.as_str(), &bytes[..len])?;
-            assert_eq!(rt;
-                FileDisk::new(&rt, path.as_str()).blocks(),
-                want,
-                "{len} bytes"
-            );
+            assert_eq!(rt; size_of(&rt, path.as_str()), want, "{len} bytes");
         }
-        let below_a_file = FileDisk::new(&rt, below.as_str());
-        let mut gone = FileDisk::new(&rt, path.as_str());
+        fs::remove_file(&rt, path.as_str())?;
+        let folder = env::temp_dir(&rt)?;
+        assert_eq!(rt; size_of(&rt, folder.as_str()), 0);
+        Ok(())
+    }
+
+    #[test]
+    fn write_keeps_the_rest_of_a_file(rt: HostRuntime) -> Result<(), Fail> {
+        let path = path_of(&rt, "rest")?;
+        let bytes = [2; 1500];
+        fs::write(&rt, path.as_str(), &bytes)?;
         let mut disk = FileDisk::new(&rt, path.as_str());
         let first = block_at(&mut disk, 0);
-        let written = (write(&mut disk, 0), disk.sync());
+        let done = (write_at(&mut disk, 0), disk.sync());
         let after = fs::read(&rt, path.as_str())?;
-        fs::write(&rt, path.as_str(), &bytes[..1023])?;
-        let short = block_at(&mut disk, 0);
         fs::remove_file(&rt, path.as_str())?;
         assert_eq!(rt; first, Ok(Block([2; BLOCK_BYTES])));
-        assert_eq!(rt; written, (Ok(()), Ok(())));
+        assert_eq!(rt; done, (Ok(()), Ok(())));
+        assert!(rt; after.starts_with(&ONES.0) && after.ends_with(&bytes[BLOCK_BYTES..]));
         assert_eq!(rt; after.len(), 1500);
-        assert!(rt; after.starts_with(&ONES.0));
-        assert!(rt; after.ends_with(&bytes[BLOCK_BYTES..]));
-        assert_eq!(rt; short, Err(DiskFault));
+        Ok(())
+    }
+
+    #[test]
+    fn file_that_is_gone_is_a_fault(rt: HostRuntime) -> Result<(), Fail> {
+        let path = path_of(&rt, "gone")?;
+        fs::write(&rt, path.as_str(), &[2; 1024])?;
+        let mut disk = FileDisk::new(&rt, path.as_str());
+        fs::remove_file(&rt, path.as_str())?;
+        assert_eq!(rt; block_at(&mut disk, 0), Err(DiskFault));
+        assert_eq!(rt; write_at(&mut disk, 0), Err(DiskFault));
+        assert_eq!(rt; disk.sync(), Err(DiskFault));
         assert_eq!(rt; disk.clock(), 2);
-        assert_eq!(rt; write(&mut gone, 0), Err(DiskFault));
-        assert_eq!(rt; gone.sync(), Err(DiskFault));
-        assert_eq!(rt; gone.clock(), 2);
         assert!(rt; !fs::exists(&rt, path.as_str())?);
-        assert_eq!(rt; below_a_file.blocks(), 0);
-        assert_eq!(rt; FileDisk::new(&rt, folder.as_str()).blocks(), 0);
         Ok(())
     }
 }

@@ -2,13 +2,14 @@
 use Rattle.std.proofs.Common.{◌≡◌, ℕ, ◌≤◌, List, length, Option, Some, None, inr, subst}
 use Rattle.nesc_base.specs.Script.{Script}
 use Rattle.script_lang.specs.CommandsText.{IsCommandsText}
-use Rattle.nesc_monitor.specs.Endings.{IsCommandsRefused, IsScheduleRefused, IsTurnedAway, Watched}
+use Rattle.nesc_monitor.specs.Endings.{IsCommandsRefused, IsScheduleRefused, IsTurnedAway}
+use Rattle.nesc_monitor.specs.Watched.{Watched}
 use Rattle.script_lang.specs.Limits.{most_bytes}
 use Rattle.nesc_monitor.specs.Reading.{GivesAll}
 use Rattle.script_lang.specs.ScheduleText.{schedule_of}
 use Rattle.nesc_monitor.specs.Texts.{IsRefusal}
 use Rattle.nesc_monitor.specs.declared.ending.Ending.{Ending}
-use Rattle.nesc_monitor.specs.declared.ending.Ending.TheVariants.{Done, Words, Memory, Commands, Schedule, Read, Write}
+use Rattle.nesc_monitor.specs.declared.ending.Ending.TheVariants.{Done, Words, Memory, Commands, Schedule, Image, Device, Read, Write}
 
 commands_refused : (commands schedule : List ℕ) (told told_after other other_after : Option (List ℕ)) → GivesAll commands told told_after → GivesAll schedule other other_after → length schedule ≤ most_bytes
     → ((script : Script) → ¬ IsCommandsText commands script) → IsCommandsRefused told other
@@ -36,5 +37,7 @@ IsTurnedAway-judged Commands commands schedule told other one two few few_others
 IsTurnedAway-judged Schedule commands schedule told other one two few few_others refusal = schedule_refused commands schedule told.before told.after other.before other.after one two few refusal
 IsTurnedAway-judged Done commands schedule told other one two few few_others refusal = absurd refusal
 IsTurnedAway-judged Words commands schedule told other one two few few_others refusal = absurd refusal
+IsTurnedAway-judged (Image fault) commands schedule told other one two few few_others refusal = absurd refusal
+IsTurnedAway-judged Device commands schedule told other one two few few_others refusal = absurd refusal
 IsTurnedAway-judged Read commands schedule told other one two few few_others refusal = absurd refusal
 IsTurnedAway-judged Write commands schedule told other one two few few_others refusal = absurd refusal

@@ -1,22 +1,30 @@
 -- What a command of the program comes to, and what it says of it.
-use Rattle.std.specs.Prelude.{◌≡◌, ℕ, ◌<◌, ◌≤◌, ◌⊎◌, ◌++◌, Bool, true, false, List, [], ◌∷◌, length, take, codes, Option, Some, None}
-use Rattle.std.specs.Str.{bytes_eq}
+use Rattle.std.specs.Prelude.{◌≡◌, ℕ, ◌<◌, ◌≤◌, ◌⊎◌, ◌++◌, List, [], length, take, codes, Option, Some, None}
+use Rattle.std.specs.Fmt.{decimal}
+use Rattle.nesc_base.specs.Disk.{Known, Leaves, Unchanged}
 use Rattle.nesc_base.specs.Fault.{Rose}
 use Rattle.nesc_base.specs.Sink.{Appends}
 use Rattle.nesc_base.specs.Script.{Script}
 use Rattle.nesc_base.specs.declared.word.Word.{Word}
 use Rattle.file_model.specs.Lines.{trace_text}
-use Rattle.file_model.specs.Machine.{Run}
+use Rattle.file_model.specs.Machine as machine
 use Rattle.file_model.specs.State.{State, start}
 use Rattle.file_model.specs.declared.line.Line.{Line}
 use Rattle.script_lang.specs.CommandsText.{IsCommandsText}
 use Rattle.script_lang.specs.Limits.{most_bytes, most_queued}
 use Rattle.script_lang.specs.ScheduleText.{schedule_of}
+use Rattle.image_layout.specs.declared.fault.ImageFault.{ImageFault}
+use Rattle.image_layout.specs.declared.fault.ImageFault.TheVariants.{BadSuper, BadSize, BadList, BadTable, BadOwner, TwiceOwned}
+use Rattle.image_tools.specs.Make.{OpensWhereMade}
+use Rattle.nesc_monitor.specs.Making.{Makes}
 use Rattle.nesc_monitor.specs.Reading.{TakesFront}
+use Rattle.nesc_monitor.specs.Watched.{HasFailed, IsUntouched, Watched}
+use Rattle.nesc_monitor.specs.declared.words.Command.{Command}
+use Rattle.nesc_monitor.specs.declared.words.Command.TheVariants.{Run, Make}
 use Rattle.nesc_monitor.specs.declared.ending.Ending.{Ending}
 use Rattle.nesc_monitor.specs.declared.ending.Ending.TheVariants as ending
 use Rattle.nesc_monitor.specs.declared.ending.Status.{Status}
-use Rattle.nesc_monitor.specs.declared.ending.Status.TheVariants.{Done, Words, Memory, Input, Read, Write}
+use Rattle.nesc_monitor.specs.declared.ending.Status.TheVariants.{Done, Words, Memory, Input, Image, Device, Read, Write}
 
 -- the exit status
 abbrev pub code_of : Status → ℕ
@@ -24,6 +32,8 @@ code_of Done = 0
 code_of Words = 2
 code_of Memory = 3
 code_of Input = 4
+code_of Image = 5
+code_of Device = 6
 code_of Read = 7
 code_of Write = 8
 
@@ -33,8 +43,19 @@ status_of ending.Words = Words
 status_of ending.Memory = Memory
 status_of ending.Commands = Input
 status_of ending.Schedule = Input
+status_of (ending.Image fault) = Image
+status_of ending.Device = Device
 status_of ending.Read = Read
 status_of ending.Write = Write
+
+-- why an image is refused, with its place
+abbrev pub fault_line : ImageFault → List ℕ
+fault_line (BadSuper block) = codes "super " ++ decimal block ++ codes "\n"
+fault_line (BadSize block) = codes "size " ++ decimal block ++ codes "\n"
+fault_line (BadList block) = codes "list " ++ decimal block ++ codes "\n"
+fault_line (BadTable block) = codes "table " ++ decimal block ++ codes "\n"
+fault_line (BadOwner block) = codes "owner " ++ decimal block ++ codes "\n"
+fault_line (TwiceOwned file v) = codes "twice " ++ (decimal file.0 ++ (codes " " ++ (decimal v ++ codes "\n")))
 
 -- what stands on standard error
 abbrev pub error_line : Ending → List ℕ
@@ -43,29 +64,10 @@ error_line ending.Words = codes "nesc: words\n"
 error_line ending.Memory = codes "nesc: memory\n"
 error_line ending.Commands = codes "nesc: input commands\n"
 error_line ending.Schedule = codes "nesc: input schedule\n"
+error_line (ending.Image fault) = codes "nesc: image " ++ fault_line fault
+error_line ending.Device = codes "nesc: device\n"
 error_line ending.Read = codes "nesc: read\n"
 error_line ending.Write = codes "nesc: write\n"
-
--- the words of the command line are `run` and nothing else
-abbrev pub is_run : List (List ℕ) → Bool
-is_run (word ∷ []) = bytes_eq word (codes "run")
-is_run words = false
-
--- A source or a sink over a call: the bytes that it had left, or had taken, and has now, where it tells them, and how
--- often it had failed and has failed now.
-pub record Watched : Type 0 where
-  pub before : Option (List ℕ)
-  pub after : Option (List ℕ)
-  pub faults_before : ℕ
-  pub faults_after : ℕ
-
--- such a thing over a call, by what it tells of its bytes and its failures
-abbrev pub watch : {T : Type 0} → (T → Option (List ℕ)) → (T → ℕ) → T → T → Watched
-watch bytes faults old new = record { before = bytes old; after = bytes new; faults_before = faults old; faults_after = faults new }
-
--- it failed in the call
-abbrev pub HasFailed : Watched → Type 0
-HasFailed watched = Rose watched.faults_before watched.faults_after
 
 -- where a source told what it had left, and did not fail: only the front of that was taken
 abbrev pub IsTakenFromFront : Watched → Type 0
@@ -85,7 +87,7 @@ pub record IsTrace (commands schedule output : List ℕ) : Type 0 where
   pub read_schedule : schedule_of schedule ≡ Some words
   pub groups : List (List Line)
   pub end : State
-  pub run : Run (start most_queued script) words groups end
+  pub run : machine.Run (start most_queued script) words groups end
   pub text : output ≡ trace_text groups
 
 -- where the sources and the sink tell their bytes: such an output stands behind what the sink had
@@ -126,14 +128,25 @@ IsTurnedAway ending.Schedule commands schedule = IsScheduleRefused commands.befo
 IsTurnedAway ending.Read commands schedule = HasFailed commands ⊎ HasFailed schedule
 IsTurnedAway other commands schedule = ⊥
 
--- What an ending says of the words, of the two sources and of the sink.
-abbrev pub Comes : Ending → List (List ℕ) → Watched → Watched → Watched → Type 0
-Comes ending.Done words commands schedule out =
-    (is_run words ≡ true) × AreAccepted commands.before schedule.before × WritesTrace commands.before schedule.before out.before out.after × IsReadOut commands.before commands.after × IsReadOut schedule.before schedule.after
-Comes ending.Words words commands schedule out = (is_run words ≡ false) × (out.after ≡ out.before)
-Comes ending.Write words commands schedule out =
-    (is_run words ≡ true) × AreAccepted commands.before schedule.before × HasFailed out × WritesFront commands.before schedule.before out.before out.after
-Comes other words commands schedule out = (is_run words ≡ true) × IsTurnedAway other commands schedule × (out.after ≡ out.before)
+-- what the command `run` comes to: the two sources, and the sink
+abbrev pub Runs : Ending → Watched → Watched → Watched → Type 0
+Runs ending.Done commands schedule out =
+    AreAccepted commands.before schedule.before × WritesTrace commands.before schedule.before out.before out.after × IsReadOut commands.before commands.after × IsReadOut schedule.before schedule.after
+Runs ending.Write commands schedule out =
+    AreAccepted commands.before schedule.before × HasFailed out × WritesFront commands.before schedule.before out.before out.after
+Runs other commands schedule out = IsTurnedAway other commands schedule × (out.after ≡ out.before)
+
+-- What an ending says, by the command that the words are: of the two sources, of the image and of the sink.
+abbrev pub Comes : Ending → Option Command → Watched → Watched → Known → Known → Watched → Type 0
+Comes outcome None commands schedule old new out =
+    (outcome ≡ ending.Words) × IsUntouched commands × IsUntouched schedule × Unchanged old new × IsUntouched out
+Comes outcome (Some Run) commands schedule old new out = Runs outcome commands schedule out × Unchanged old new
+Comes outcome (Some (Make geometry)) commands schedule old new out = IsUntouched commands × IsUntouched schedule × Makes outcome geometry old new out
+
+-- while an image is made, a stop on the way leaves one that opens wherever it has its superblock; else nothing new
+abbrev pub AtAnyMoment : Option Command → Known → Known → Type 0
+AtAnyMoment (Some (Make geometry)) old new = Leaves (λ _. OpensWhereMade geometry (old.left old.clock)) old new
+AtAnyMoment command old new = Leaves (λ _ _. ⊥) old new
 
 -- what the steps can come to
 abbrev pub IsOfSteps : Ending → Type 0

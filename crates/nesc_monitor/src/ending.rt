@@ -1,5 +1,14 @@
-ghost use Rattle.std.specs.Prelude.{◌≡◌};
+ghost use Rattle.std.specs.Prelude.{◌≡◌, ◌++◌, codes};
+ghost use Rattle.std.specs.Fmt.{decimal};
 ghost use Rattle.nesc_monitor.specs.Endings.{code_of, error_line, status_of};
+ghost use Rattle.image_layout.specs.declared.fault.ImageFault.TheVariants.{TwiceOwned};
+ghost use Rattle.nesc_monitor.specs.declared.ending.Ending.TheVariants as ending;
+ghost use Rattle.text_kit.specs.Writes.{Writes};
+
+use crate::pieces::{Piece, write_pieces};
+use image_layout::ImageFault;
+use nesc_base::{FileNo, Sink, WriteFault};
+use text_kit::write_text;
 
 /// How a command of the program ended.
 #[derive(Clone, Copy, Debug, PartialEq, Eq)]
@@ -12,6 +21,10 @@ pub enum Status {
     Memory,
     /// A text that was read is refused.
     Input,
+    /// The image is refused, or the disk is too small for it.
+    Image,
+    /// The disk of the image failed.
+    Device,
     /// A text could not be read.
     Read,
     /// What was to go out could not be written.
@@ -28,6 +41,8 @@ impl Status {
             Status::Words => 2,
             Status::Memory => 3,
             Status::Input => 4,
+            Status::Image => 5,
+            Status::Device => 6,
             Status::Read => 7,
             Status::Write => 8,
         }
@@ -47,9 +62,13 @@ pub enum Ending {
     Commands,
     /// The schedule is refused.
     Schedule,
+    /// The image is refused, or the disk is too small for it.
+    Image(ImageFault),
+    /// The disk of the image failed.
+    Device,
     /// A text could not be read.
     Read,
-    /// The trace could not be written.
+    /// What was to go out could not be written.
     Write,
 }
 
@@ -63,23 +82,69 @@ impl Ending {
             Ending::Words => Status::Words,
             Ending::Memory => Status::Memory,
             Ending::Commands | Ending::Schedule => Status::Input,
+            Ending::Image(_) => Status::Image,
+            Ending::Device => Status::Device,
             Ending::Read => Status::Read,
             Ending::Write => Status::Write,
         }
     }
 
-    /// The line on standard error, which is none where all went well.
-    pub fn error_line(self) -> &'static [u8]
-        ensures { result.now ≡ error_line self }
+    /// Writes the line on standard error, which is none where all went well.
+    pub fn tell<E: Sink>(self, err: &mut E) -> Result<(), WriteFault>
+        ensures { Writes E.taken E.faults E.lent err.old err.new (error_line self) result }
     {
         match self {
-            Ending::Done => b"",
-            Ending::Words => b"nesc: words\n",
-            Ending::Memory => b"nesc: memory\n",
-            Ending::Commands => b"nesc: input commands\n",
-            Ending::Schedule => b"nesc: input schedule\n",
-            Ending::Read => b"nesc: read\n",
-            Ending::Write => b"nesc: write\n",
+            Ending::Done => write_text(err, b""),
+            Ending::Words => write_text(err, b"nesc: words\n"),
+            Ending::Memory => write_text(err, b"nesc: memory\n"),
+            Ending::Commands => write_text(err, b"nesc: input commands\n"),
+            Ending::Schedule => write_text(err, b"nesc: input schedule\n"),
+            Ending::Image(fault) => tell_fault(err, fault),
+            Ending::Device => write_text(err, b"nesc: device\n"),
+            Ending::Read => write_text(err, b"nesc: read\n"),
+            Ending::Write => write_text(err, b"nesc: write\n"),
         }
     }
+}
+
+/// Writes the line that says why an image is refused.
+fn tell_fault<E: Sink>(err: &mut E, fault: ImageFault) -> Result<(), WriteFault>
+    ensures { Writes E.taken E.faults E.lent err.old err.new (error_line (ending.Image fault)) result }
+{
+    match fault {
+        ImageFault::BadSuper { block } => tell_place(err, b"super ", block),
+        ImageFault::BadSize { block } => tell_place(err, b"size ", block),
+        ImageFault::BadList { block } => tell_place(err, b"list ", block),
+        ImageFault::BadTable { block } => tell_place(err, b"table ", block),
+        ImageFault::BadOwner { block } => tell_place(err, b"owner ", block),
+        ImageFault::TwiceOwned { file, v } => tell_owner(err, file, v),
+    }
+}
+
+/// Writes the line that says which block of a file is held twice.
+fn tell_owner<E: Sink>(err: &mut E, file: FileNo, v: u32) -> Result<(), WriteFault>
+    ensures { Writes E.taken E.faults E.lent err.old err.new (error_line (ending.Image (TwiceOwned file v))) result }
+{
+    let pieces = [
+        Piece::Text(b"nesc: image "),
+        Piece::Text(b"twice "),
+        Piece::Number(u64::from(file.0)),
+        Piece::Text(b" "),
+        Piece::Number(u64::from(v)),
+        Piece::Text(b"\n"),
+    ];
+    write_pieces(err, &pieces)
+}
+
+/// Writes the line that says what is wrong with an image at one of its blocks.
+fn tell_place<E: Sink>(err: &mut E, kind: &[u8], block: u32) -> Result<(), WriteFault>
+    ensures { Writes E.taken E.faults E.lent err.old err.new (codes "nesc: image " ++ kind.now ++ decimal block ++ codes "\n") result }
+{
+    let pieces = [
+        Piece::Text(b"nesc: image "),
+        Piece::Text(kind),
+        Piece::Number(u64::from(block)),
+        Piece::Text(b"\n"),
+    ];
+    write_pieces(err, &pieces)
 }

@@ -1,4 +1,4 @@
-//! The top call of the program: it reads the texts, takes the steps and writes the trace.
+//! The top call of the program: it makes an image, or reads the texts, takes the steps and writes the trace.
 #![tactic(auto)]
 
 mod ending;
@@ -8,6 +8,7 @@ mod reading;
 mod steps;
 mod texts;
 mod trace;
+mod words;
 
 pub use ending::Status;
 pub use monitor::run;

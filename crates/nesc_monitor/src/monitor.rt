@@ -1,22 +1,37 @@
-ghost use Rattle.std.specs.Prelude.{◌≡◌, ◌≤◌, ◌↔◌, ◌⊎◌, true, [], map, false, string_bytes, IsErr, OnOk};
-ghost use Rattle.nesc_base.specs.Fault.{HasCause};
+ghost use Rattle.std.specs.Prelude.{◌≡◌, ◌<◌, ◌≤◌, ◌↔◌, ◌⊎◌, ◌++◌, [], map, codes, string_bytes, IsErr, None, OnOk, Some};
+ghost use Rattle.std.specs.Fmt.{decimal};
+ghost use Rattle.nesc_base.specs.declared.geometry.Geometry.{Geometry};
+ghost use Rattle.nesc_base.specs.Disk.{Goes, Leaves};
+ghost use Rattle.nesc_base.specs.Fault.{HasCause, Rose};
+ghost use Rattle.nesc_base.specs.Geometry.{IsGeometry, total};
+ghost use Rattle.nesc_base.specs.Sink.{Appends};
 ghost use Rattle.text_kit.specs.Buffered.{lent_name, pending_of, sink_of};
+ghost use Rattle.text_kit.specs.Writes.{Writes};
 ghost use Rattle.file_model.specs.State.{start};
+ghost use Rattle.image_tools.specs.Make.{OpensWhereMade};
 ghost use Rattle.script_lang.specs.CommandsText.{blocks_in_all};
-ghost use Rattle.nesc_monitor.specs.Endings.{AreKnownAccepted, AreKnownRefused, Comes, HasFailed, IsCarriedOut, IsEarly, IsOfSteps, IsTakenFromFront, IsToldOn, IsTurnedDown, WritesTrace, is_run, status_of, watch};
 ghost use Rattle.script_lang.specs.Limits.{most_blocks, most_queued};
 ghost use Rattle.nesc_session.specs.Session.{IsReady, state_of};
+ghost use Rattle.nesc_monitor.specs.Endings.{AreKnownAccepted, AreKnownRefused, AtAnyMoment, Comes, IsCarriedOut, IsEarly, IsOfSteps, IsTakenFromFront, IsToldOn, IsTurnedDown, Runs, WritesTrace, status_of};
+ghost use Rattle.nesc_monitor.specs.Making.{IsMade, Makes, made_text};
 ghost use Rattle.nesc_monitor.specs.Steps.{TellsAll, TellsFront};
+ghost use Rattle.nesc_monitor.specs.Watched.{HasFailed, watch};
+ghost use Rattle.nesc_monitor.specs.Words.{command_of};
 ghost use Rattle.nesc_monitor.specs.declared.ending.Ending.{Ending};
+ghost use Rattle.nesc_monitor.specs.declared.words.Command.TheVariants.{Make, Run};
 
 use crate::ending::{Ending, Status};
+use crate::pieces::{Piece, write_pieces};
 use crate::steps::take_steps;
 use crate::texts::{Script, read_script};
-use nesc_base::{Sink, Source, WriteFault};
+use crate::words::{Command, read_words};
+use image_layout::ImageFault;
+use image_tools::{MakeFault, make};
+use nesc_base::{Disk, Geometry, Sink, Source, WriteFault};
 use nesc_session::Session;
 use script_lang::Schedule;
 use std::alloc::Global;
-use text_kit::{Buffer, Buffered, write_text};
+use text_kit::{Buffer, Buffered};
 
 /// Writes the trace of all steps, and hands on what is still gathered of it.
 fn write_trace<K: Sink>(
@@ -78,79 +93,151 @@ fn write_run<K: Sink>(alloc: Global, script: Script, out: &mut K) -> Ending
     }
 }
 
-/// Whether the words of the command line are `run` and nothing else.
-fn is_run(words: &[String]) -> bool
-    ensures { result ≡ is_run (map string_bytes words.now) }
-{
-    match words {
-        [word] => word.as_str() == "run",
-        _ => false,
-    }
-}
-
-/// Carries out the command `run`, but for what is told on standard error.
-fn carry_out<S: Source, K: Sink>(
+/// Carries out the command `run`: reads both texts, and takes the steps.
+fn run_texts<S: Source, K: Sink>(
     alloc: Global,
-    words: &[String],
     commands: &mut S,
     schedule: &mut S,
     out: &mut K,
 ) -> Ending
-    ensures comes { Comes result (map string_bytes words.now)
+    ensures runs { Runs result
         (watch S.left S.faults commands.old commands.new)
         (watch S.left S.faults schedule.old schedule.new)
         (watch K.taken K.faults out.old out.new) }
     ensures taken { IsTakenFromFront (watch S.left S.faults commands.old commands.new) × IsTakenFromFront (watch S.left S.faults schedule.old schedule.new) }
     ensures never_fall { (S.faults commands.old ≤ S.faults commands.new) × (S.faults schedule.old ≤ S.faults schedule.new) × (K.faults out.old ≤ K.faults out.new) }
 {
-    if !is_run(words) {
-        return Ending::Words;
-    }
     match read_script(alloc, commands, schedule) {
         Ok(script) => write_run(alloc, script, out),
         Err(ending) => ending,
     }
 }
 
-/// Carries out the command that the words of the command line name, which is `run`: reads the commands file and the
-/// schedule, takes the steps of the schedule over files kept in memory, and writes the trace to `out`.
-///
-/// `err` gets one line where the command did not come to its end, and no failure of `err` changes the status. Nothing
-/// goes to `out` before both texts are accepted.
-pub fn run<S: Source, K: Sink, E: Sink>(
+/// Says how many blocks the image has that was made.
+fn tell_made<K: Sink>(out: &mut K, total: u32) -> Result<(), WriteFault>
+    ensures { Writes K.taken K.faults K.lent out.old out.new (codes "made " ++ decimal total ++ codes "\n") result }
+{
+    let pieces = [
+        Piece::Text(b"made "),
+        Piece::Number(u64::from(total)),
+        Piece::Text(b"\n"),
+    ];
+    write_pieces(out, &pieces)
+}
+
+/// Carries out the command `make`.
+fn make_image<D: Disk, K: Sink>(image: &mut D, geometry: Geometry, out: &mut K) -> Ending
+    requires { IsGeometry geometry }
+    ensures makes { Makes result geometry (D.known image.old) (D.known image.new) (watch K.taken K.faults out.old out.new) }
+    ensures any_moment { Leaves (λ _. OpensWhereMade geometry ((D.known image.old).left (D.known image.old).clock)) (D.known image.old) (D.known image.new) }
+    ensures goes { Goes (D.known image.old) (D.known image.new) }
+    ensures keeps { D.keeps image.old image.new }
+    ensures never_fall { ((D.known image.old).faults ≤ (D.known image.new).faults) × (K.faults out.old ≤ K.faults out.new) }
+{
+    let total = match make(image, geometry) {
+        Ok(total) => total,
+        Err(MakeFault::Disk(_)) => return Ending::Device,
+        Err(MakeFault::BadSize { block }) => return Ending::Image(ImageFault::BadSize { block }),
+    };
+    let Ok(()) = tell_made(out, total) else {
+        return Ending::Write;
+    };
+    Ending::Done
+}
+
+/// Carries out the command that the words name, but for what is told on standard error.
+fn carry_out<S: Source, K: Sink, D: Disk>(
     alloc: Global,
     words: &[String],
     commands: &mut S,
     schedule: &mut S,
+    image: &mut D,
+    out: &mut K,
+) -> Ending
+    ensures comes { Comes result (command_of (map string_bytes words.now))
+        (watch S.left S.faults commands.old commands.new)
+        (watch S.left S.faults schedule.old schedule.new)
+        (D.known image.old) (D.known image.new)
+        (watch K.taken K.faults out.old out.new) }
+    ensures any_moment { AtAnyMoment (command_of (map string_bytes words.now)) (D.known image.old) (D.known image.new) }
+    ensures taken { IsTakenFromFront (watch S.left S.faults commands.old commands.new) × IsTakenFromFront (watch S.left S.faults schedule.old schedule.new) }
+    ensures never_fall { (S.faults commands.old ≤ S.faults commands.new) × (S.faults schedule.old ≤ S.faults schedule.new)
+        × ((D.known image.old).faults ≤ (D.known image.new).faults) × (K.faults out.old ≤ K.faults out.new) }
+    ensures goes { Goes (D.known image.old) (D.known image.new) }
+    ensures keeps { D.keeps image.old image.new }
+{
+    match read_words(words) {
+        Some(Command::Run) => run_texts(alloc, commands, schedule, out),
+        Some(Command::Make(geometry)) => make_image(image, geometry, out),
+        None => Ending::Words,
+    }
+}
+
+/// Carries out the command that the words of the command line name.
+///
+/// `run` reads the commands file and the schedule, takes the steps of the schedule over files kept in memory, and
+/// writes the trace to `out`. Nothing goes to `out` before both texts are accepted, and nothing is asked of `image`.
+///
+/// `make --blocks N` and `make --blocks N --slack S` make an image of no files on `image`, over whatever that held,
+/// and write to `out` how many blocks it has.
+///
+/// `err` gets one line where the command did not come to its end, and no failure of `err` changes the status. Of
+/// `spare` nothing is asked.
+pub fn run<S: Source, K: Sink, E: Sink, D: Disk>(
+    alloc: Global,
+    words: &[String],
+    commands: &mut S,
+    schedule: &mut S,
+    image: &mut D,
+    _spare: &mut D,
     out: &mut K,
     err: &mut E,
 ) -> Status
-    // The whole trace is that of a run of the plain machine over both texts.
-    ensures done { result ≡ Status.Done → WritesTrace (S.left commands.old) (S.left schedule.old) (K.taken out.old) (K.taken out.new) }
-    ensures words { (result ≡ Status.Words) ↔ (is_run (map string_bytes words.now) ≡ false) }
+    ensures words { (result ≡ Status.Words) ↔ (command_of (map string_bytes words.now) ≡ None) }
+
+    // `run`: the whole trace is that of a run of the plain machine over both texts.
+    ensures done { command_of (map string_bytes words.now) ≡ Some Run → result ≡ Status.Done
+        → WritesTrace (S.left commands.old) (S.left schedule.old) (K.taken out.old) (K.taken out.new) }
 
     // Where nothing fails and there is memory, texts that are accepted are carried out, and others are turned down.
-    ensures complete { is_run (map string_bytes words.now) ≡ true → AreKnownAccepted (S.left commands.old) (S.left schedule.old)
+    ensures complete { command_of (map string_bytes words.now) ≡ Some Run → AreKnownAccepted (S.left commands.old) (S.left schedule.old)
         → ¬ HasFailed (watch S.left S.faults commands.old commands.new) → ¬ HasFailed (watch S.left S.faults schedule.old schedule.new) → ¬ HasFailed (watch K.taken K.faults out.old out.new)
         → IsCarriedOut result (K.taken out.old) (K.taken out.new) }
-    ensures refused { is_run (map string_bytes words.now) ≡ true → AreKnownRefused (S.left commands.old) (S.left schedule.old)
+    ensures refused { command_of (map string_bytes words.now) ≡ Some Run → AreKnownRefused (S.left commands.old) (S.left schedule.old)
         → ¬ HasFailed (watch S.left S.faults commands.old commands.new) → ¬ HasFailed (watch S.left S.faults schedule.old schedule.new) → IsTurnedDown result }
+
+    // `make`: the image is made, and opens with no files after a stop from then on; on the way it opens wherever it
+    // has its superblock.
+    ensures made { (geometry : Geometry) → command_of (map string_bytes words.now) ≡ Some (Make geometry) → result ≡ Status.Done
+        → IsMade geometry (D.known image.old) (D.known image.new) × Appends (K.taken out.old) (K.taken out.new) (made_text geometry) }
+    ensures any_moment { AtAnyMoment (command_of (map string_bytes words.now)) (D.known image.old) (D.known image.new) }
+
+    // It is carried out where nothing fails and the disk is large enough, and turned down exactly where it is not.
+    ensures made_complete { (geometry : Geometry) → command_of (map string_bytes words.now) ≡ Some (Make geometry) → total geometry ≤ (D.known image.old).size
+        → ¬ Rose (D.known image.old).faults (D.known image.new).faults → ¬ HasFailed (watch K.taken K.faults out.old out.new) → result ≡ Status.Done }
+    ensures small { (geometry : Geometry) → command_of (map string_bytes words.now) ≡ Some (Make geometry)
+        → (result ≡ Status.Image) ↔ ((D.known image.old).size < total geometry) }
 
     // Nothing goes out before the first step, and a failure is told only where one came.
     ensures early { IsEarly result → K.taken out.new ≡ K.taken out.old }
+    ensures device { result ≡ Status.Device → Rose (D.known image.old).faults (D.known image.new).faults }
     ensures read { result ≡ Status.Read → HasFailed (watch S.left S.faults commands.old commands.new) ⊎ HasFailed (watch S.left S.faults schedule.old schedule.new) }
     ensures write { result ≡ Status.Write → HasFailed (watch K.taken K.faults out.old out.new) }
 
     // Each status has its cause, and its line on `err`.
     ensures ending { (ending : Ending) × (result ≡ status_of ending) × IsToldOn (E.taken err.old) (E.taken err.new) (E.faults err.old) (E.faults err.new) ending
-        × Comes ending (map string_bytes words.now)
+        × Comes ending (command_of (map string_bytes words.now))
         (watch S.left S.faults commands.old commands.new)
         (watch S.left S.faults schedule.old schedule.new)
+        (D.known image.old) (D.known image.new)
         (watch K.taken K.faults out.old out.new) }
     ensures taken { IsTakenFromFront (watch S.left S.faults commands.old commands.new) × IsTakenFromFront (watch S.left S.faults schedule.old schedule.new) }
-    ensures never_fall { (S.faults commands.old ≤ S.faults commands.new) × (S.faults schedule.old ≤ S.faults schedule.new) × (K.faults out.old ≤ K.faults out.new) }
+    ensures never_fall { (S.faults commands.old ≤ S.faults commands.new) × (S.faults schedule.old ≤ S.faults schedule.new)
+        × ((D.known image.old).faults ≤ (D.known image.new).faults) × (K.faults out.old ≤ K.faults out.new) }
+    ensures goes { Goes (D.known image.old) (D.known image.new) }
+    ensures keeps { D.keeps image.old image.new }
 {
-    let ending = carry_out(alloc, words, commands, schedule, out);
-    let _told = write_text(err, ending.error_line());
+    let ending = carry_out(alloc, words, commands, schedule, image, out);
+    let _told = ending.tell(err);
     ending.status()
 }

@@ -1,6 +1,7 @@
 ghost use Rattle.std.specs.Prelude.{◌≡◌, ◌≤◌, Some, length, IfErr, IfOk, OnOk};
 ghost use Rattle.script_lang.specs.CommandsText.{IsCommandsText, blocks_in_all};
-ghost use Rattle.nesc_monitor.specs.Endings.{IsReadOut, IsTakenFromFront, IsTurnedAway, watch};
+ghost use Rattle.nesc_monitor.specs.Endings.{IsReadOut, IsTakenFromFront, IsTurnedAway};
+ghost use Rattle.nesc_monitor.specs.Watched.{watch};
 ghost use Rattle.script_lang.specs.Limits.{most_blocks};
 ghost use Rattle.nesc_monitor.specs.Reading.{GivesAll};
 ghost use Rattle.script_lang.specs.ScheduleText.{schedule_of};

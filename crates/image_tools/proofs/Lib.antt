@@ -1,0 +1,4 @@
+pub mod Clearing
+pub mod NewImage
+pub mod Stages
+pub mod Zeros
