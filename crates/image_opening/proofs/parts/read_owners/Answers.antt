@@ -1,0 +1,87 @@
+use Rattle.std.proofs.Common.{◌≡◌, ℕ, ◌+◌, ◌*◌, ◌<◌, ◌∙◌, Err, List, Option, ◌++◌, inl, inr, length, take, drop, subst, sym, ap, arith, length-append, length-drop, rules}
+use Rattle.std.proofs.lemmas.Bool.{cases_lt}
+use Rattle.std.proofs.lemmas.List.{drop-append-le, drop_at, take-append-le, take_all}
+use Rattle.nesc_base.specs.declared.block.Block.{Block}
+use Rattle.nesc_base.specs.Disk.{Known}
+use Rattle.nesc_base.specs.Geometry.{map_at}
+use Rattle.nesc_base.proofs.DiskCalls.{goes_on, unchanged_on}
+use Rattle.image_layout.specs.declared.fault.ImageFault.TheVariants.{BadOwner}
+use Rattle.image_layout.specs.declared.fault.OpenFault.TheVariants.{Image}
+use Rattle.image_layout.specs.Opens.{IsMapBlock}
+use Rattle.image_layout.specs.Owners.{Owner}
+use Rattle.image_layout.specs.Refusal.{LacksOwners}
+use Rattle.image_layout.specs.Slots.{block_at}
+use Rattle.image_opening.specs.Parts.{IsTurnedDown}
+use Rattle.image_opening.proofs.PartsLemmas.{block_here, lays_itself}
+use Rattle.image_opening.proofs.parts.read_owners.Goals as goal
+
+-- what holds of each 128 of a list holds with 128 more behind it
+more : {X : Type 0} (P : ℕ → List X → Type 0) (b : ℕ) (xs found : List X) → length xs ≡ 128 * b → length found ≡ 128
+    → ((c : ℕ) → c < b → P c (take 128 (drop (128 * c) xs))) → P b found
+    → (c : ℕ) → c < b + 1 → P c (take 128 (drop (128 * c) (xs ++ found)))
+more P b xs found count size each here c below =
+    elim (cases_lt c b) [
+      | inl before ↦
+          let left : drop (128 * c) (xs ++ found) ≡ drop (128 * c) xs ++ found = drop-append-le (128 * c) xs found (omega arith) in
+          let front : take 128 (drop (128 * c) xs ++ found) ≡ take 128 (drop (128 * c) xs) =
+          take-append-le 128 (drop (128 * c) xs) found (omega (arith, length-drop (128 * c) xs)) in
+          subst (P c) (sym (ap (take 128) left ∙ front)) (each c before)
+      | inr last ↦
+          let same : b ≡ c = omega arith in
+          let all : take 128 (drop (128 * b) (xs ++ found)) ≡ found = ap (take 128) (drop_at xs found (128 * b) count) ∙ take_all 128 found (omega arith) in
+          subst (λ n. P n (take 128 (drop (128 * n) (xs ++ found)))) same (subst (P b) (sym all) here)
+    ]
+
+pub returns-in_err-found-clause-refused : goal.returns-in_err-found-clause-refused
+returns-in_err-found-clause-refused g c tells divided closed table fault is =
+    let old : Known = g.D.Disk.known c.args.disk.now in
+    let image : List Block = old.contents in
+    let place : ℕ = c.map_at-map_at.result + c.loop-b.b in
+    let at : place ≡ map_at c.args.geometry + c.loop-b.b = omega arith in
+    let here : c.in_ok-map_block.map_block ≡ block_at image (map_at c.args.geometry + c.loop-b.b) =
+    block_here old (g.D.Disk.known c.loop-b.disk) c.in_ok-map_block.map_block place (map_at c.args.geometry + c.loop-b.b) tells
+    c.loop-b.invariant.goes c.loop-b.invariant.unchanged c.in_ok-map_block.ensures.block at in
+    let no_owners = rw c.in_err-found.ensures.ok_part at c.owners_of.ensures in
+    let lacks : LacksOwners image place = record {
+      geometry = c.args.geometry;
+      divided = divided;
+      laid = image;
+      lays = lays_itself c.args.geometry image closed;
+      entries = c.args.table.now;
+      table = table;
+      b = c.loop-b.b;
+      last = omega arith;
+      before = λ b below. (_, c.loop-b.invariant.each tells b below);
+      none = λ owners are. no_owners (owners, rw (c.lengths_of-lengths.ensures, here) are);
+      at = at;
+    } in
+    let gives : c.from_residual-in_err-found.result ≡ Err (Image c.in_err-found.field-0.0) = search rules in
+    let value = rw c.in_err-found.ensures.ok_part at c.in_err-found.ensures.value in
+    let same : BadOwner place ≡ fault = cc in
+    subst (IsTurnedDown image) same lacks
+
+pub loop-b-preserved : goal.loop-b-preserved
+loop-b-preserved g c =
+    let old : Known = g.D.Disk.known c.args.disk.now in
+    let now : Known = g.D.Disk.known c.loop-b.disk in
+    let new : Known = g.D.Disk.known c.read_block.new.disk in
+    let image : List Block = old.contents in
+    let found : List (Option Owner) = c.in_ok-found.found in
+    let place : ℕ = c.map_at-map_at.result + c.loop-b.b in
+    let at : place ≡ map_at c.args.geometry + c.loop-b.b = omega arith in
+    let are = rw c.in_ok-found.ensures.ok_part at c.owners_of.ensures in
+    let put = c.in_ok-push_owners.ensures in
+    record {
+      count = ap length put ∙ omega (arith, length-append c.loop-b.owners.items found, c.loop-b.invariant.count, are.count);
+      each = λ tells.
+          let read : c.in_ok-map_block.map_block ≡ block_at image (map_at c.args.geometry + c.loop-b.b) =
+          block_here old now c.in_ok-map_block.map_block place (map_at c.args.geometry + c.loop-b.b) tells
+          c.loop-b.invariant.goes c.loop-b.invariant.unchanged c.in_ok-map_block.ensures.block at in
+          let here : IsMapBlock c.args.geometry image c.args.table.now c.loop-b.b found = rw (c.lengths_of-lengths.ensures, read) at are in
+          λ b below. subst (λ (owners : List (Option Owner)). IsMapBlock c.args.geometry image c.args.table.now b (take 128 (drop (128 * b) owners))) (sym put)
+          (more (IsMapBlock c.args.geometry image c.args.table.now) c.loop-b.b c.loop-b.owners.items found c.loop-b.invariant.count are.count (c.loop-b.invariant.each tells) here b below);
+      never_falls = omega (arith, c.loop-b.invariant.never_falls, c.read_block.ensures.cause.never_falls);
+      unchanged = unchanged_on old now new c.loop-b.invariant.goes c.loop-b.invariant.unchanged c.read_block.ensures.unchanged;
+      goes = goes_on old now new c.loop-b.invariant.goes c.read_block.ensures.goes;
+      keeps = g.met.D.Disk.keeps_on _ _ _ c.loop-b.invariant.keeps c.read_block.ensures.keeps;
+    }

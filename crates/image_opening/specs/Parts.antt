@@ -1,0 +1,34 @@
+-- What is read of an image on a disk before its journal is replayed by anybody.
+use Rattle.std.specs.Prelude.{◌≡◌, ℕ, true, false, List, Option}
+use Rattle.nesc_base.specs.declared.block.Block.{Block}
+use Rattle.nesc_base.specs.declared.geometry.Geometry.{Geometry}
+use Rattle.nesc_base.specs.Geometry.{table_at}
+use Rattle.image_layout.specs.declared.fault.ImageFault.{ImageFault}
+use Rattle.image_layout.specs.declared.fault.ImageFault.TheVariants.{BadList}
+use Rattle.image_layout.specs.declared.table.TableEntry.{TableEntry}
+use Rattle.image_layout.specs.Gate.{is_open}
+use Rattle.image_layout.specs.Opens.{IsDivided, IsMap}
+use Rattle.image_layout.specs.Owners.{Owner}
+use Rattle.image_layout.specs.Refusal.{IsRefused}
+use Rattle.image_layout.specs.Slots.{block_at, gate}
+use Rattle.image_layout.specs.Table.{IsTable}
+
+-- the parts of an image of which no slot is to be replayed: its division, the entries of its table and the owners of
+-- its data blocks
+pub record AreParts (image : List Block) (geometry : Geometry) (entries : List (Option TableEntry)) (owners : List (Option Owner)) : Type 0 where
+  pub divided : IsDivided image geometry
+  pub closed : is_open (gate geometry image 1) ≡ false
+  pub table : IsTable (block_at image (table_at geometry)) entries
+  pub owned : IsMap geometry image entries owners
+
+-- the first gate is open, and the place is where its list begins
+pub record HasOpenGate (image : List Block) (place : ℕ) : Type 0 where
+  pub geometry : Geometry
+  pub divided : IsDivided image geometry
+  pub opened : is_open (gate geometry image 1) ≡ true
+  pub at : place ≡ 2
+
+-- so far a slot that is to be replayed is refused, whatever its list holds
+abbrev pub IsTurnedDown : List Block → ImageFault → Type 0
+IsTurnedDown image (BadList place) = HasOpenGate image place
+IsTurnedDown image fault = IsRefused image fault

@@ -1,0 +1,159 @@
+ghost use Rattle.std.specs.Prelude.{◌≡◌, ◌<◌, ◌≤◌, ◌++◌, IfOk, IsErrOf, MatchResult, OnOk, false, length, true};
+ghost use Rattle.nesc_base.specs.Disk.{Goes, Unchanged};
+ghost use Rattle.nesc_base.specs.Fault.{HasCause};
+ghost use Rattle.nesc_base.specs.Geometry.{IsGeometry, table_at, total};
+ghost use Rattle.image_layout.specs.declared.fault.ImageFault.{ImageFault};
+ghost use Rattle.image_layout.specs.declared.fault.OpenFault.TheVariants.{Disk, Image};
+ghost use Rattle.image_layout.specs.Gate.{is_open};
+ghost use Rattle.image_layout.specs.Opens.{IsDivided, IsMap, lengths_of};
+ghost use Rattle.image_layout.specs.Slots.{block_at, gate};
+ghost use Rattle.image_layout.specs.Table.{AreEntries, IsTable};
+ghost use Rattle.image_opening.specs.Parts.{AreParts, IsTurnedDown};
+
+use image_layout::{
+    ImageFault, OpenFault, Owners, Table, is_open, owners_of, read_super, table_of,
+};
+use nesc_base::{Block, Disk, FileNo, Geometry};
+use std::alloc::{AllocError, Global};
+
+/// How many data blocks a map block has the owners of.
+const BLOCK_OWNERS: u32 = 128;
+
+/// What an image says, but for what its data blocks hold.
+#[derive(Debug, Drop)]
+pub struct Parts {
+    /// How it is divided.
+    pub geometry: Geometry,
+    /// The table of files.
+    pub table: Table,
+    /// The owners of all data blocks in their order, and `None` for the rest of the last map block.
+    pub owners: Vec<Option<(FileNo, u32)>>,
+}
+
+/// Reads the parts of the image on the disk and judges them, in this order: superblock and size, the first gate, the
+/// table, the map blocks. Each block is read once, and none is written.
+///
+/// `Image` names the first part that is bad. So far no slot is replayed: where the first gate stands open it is
+/// `BadList { block: 2 }`, whatever the list holds. `Disk` comes only where the disk failed.
+pub fn read_parts<D: Disk>(alloc: Global, disk: &mut D) -> Result<Parts, OpenFault>
+    ensures parts { (D.known disk.old).tells ≡ true → IfOk result (λ parts. AreParts (D.known disk.old).contents parts.geometry parts.table parts.owners.items) }
+    ensures refused { (D.known disk.old).tells ≡ true → (fault : ImageFault) → IsErrOf result (Image fault) → IsTurnedDown (D.known disk.old).contents fault }
+    ensures sizes { IfOk result (λ parts. IsGeometry parts.geometry × (total parts.geometry ≤ (D.known disk.old).size)) }
+    ensures entries { IfOk result (λ parts. AreEntries parts.table) }
+    ensures cause { HasCause (D.known disk.old).faults (D.known disk.new).faults (IsErrOf result (Disk _)) }
+    ensures unchanged { Unchanged (D.known disk.old) (D.known disk.new) }
+    ensures goes { Goes (D.known disk.old) (D.known disk.new) }
+    ensures keeps { D.keeps disk.old disk.new }
+{
+    let geometry = divide(disk)?;
+    let gate_at = geometry.slot_at(1);
+    let gate = read_block(disk, gate_at)?;
+    if is_open(&gate) {
+        return Err(OpenFault::Image(ImageFault::BadList { block: gate_at + 1 }));
+    }
+    let table_at = geometry.table_at();
+    let table_block = read_block(disk, table_at)?;
+    let table = table_of(&table_block).ok_or(ImageFault::BadTable { block: table_at })?;
+    let owners = read_owners(alloc, disk, geometry, &table)?;
+    Ok(Parts {
+        geometry,
+        table,
+        owners,
+    })
+}
+
+/// How the image on the disk is divided.
+///
+/// `image_layout::read_geometry` reads the same, but its contract leaves room for a `BadList` of a later slot, which is
+/// none that `read_parts` may answer.
+fn divide<D: Disk>(disk: &mut D) -> Result<Geometry, OpenFault>
+    ensures divided { (D.known disk.old).tells ≡ true → IfOk result (IsDivided (D.known disk.old).contents) }
+    ensures refused { (D.known disk.old).tells ≡ true → (fault : ImageFault) → IsErrOf result (Image fault) → IsTurnedDown (D.known disk.old).contents fault }
+    ensures sizes { IfOk result IsGeometry }
+    ensures enough { IfOk result (λ geometry. total geometry ≤ (D.known disk.old).size) }
+    ensures cause { HasCause (D.known disk.old).faults (D.known disk.new).faults (IsErrOf result (Disk _)) }
+    ensures unchanged { Unchanged (D.known disk.old) (D.known disk.new) }
+    ensures goes { Goes (D.known disk.old) (D.known disk.new) }
+    ensures keeps { D.keeps disk.old disk.new }
+{
+    if disk.blocks() == 0 {
+        return Err(OpenFault::Image(ImageFault::BadSize { block: 0 }));
+    }
+    let first = read_block(disk, 0)?;
+    let geometry = read_super(&first).ok_or(ImageFault::BadSuper { block: 0 })?;
+    let blocks = disk.blocks();
+    if blocks < geometry.total() {
+        return Err(OpenFault::Image(ImageFault::BadSize { block: blocks }));
+    }
+    Ok(geometry)
+}
+
+/// The block at a place of the disk.
+fn read_block<D: Disk>(disk: &mut D, at: u32) -> Result<Block, OpenFault>
+    requires { at < (D.known disk.old).size }
+    ensures block { MatchResult result (λ block. (D.known disk.old).tells ≡ true → block ≡ block_at (D.known disk.old).contents at) (λ fault. fault ≡ Disk _) }
+    ensures cause { HasCause (D.known disk.old).faults (D.known disk.new).faults (IsErrOf result (Disk _)) }
+    ensures unchanged { Unchanged (D.known disk.old) (D.known disk.new) }
+    ensures goes { Goes (D.known disk.old) (D.known disk.new) }
+    ensures keeps { D.keeps disk.old disk.new }
+{
+    let mut block = Block::zero();
+    disk.read(at, &mut block).map_err(OpenFault::Disk)?;
+    Ok(block)
+}
+
+/// The owners of all data blocks, map block by map block, or the first map block that is none for the files of the table.
+fn read_owners<D: Disk>(
+    alloc: Global,
+    disk: &mut D,
+    geometry: Geometry,
+    table: &Table,
+) -> Result<Vec<Option<(FileNo, u32)>>, OpenFault>
+    requires sizes { IsGeometry geometry }
+    requires enough { total geometry ≤ (D.known disk.old).size }
+    requires table { AreEntries table.now }
+    ensures owned { (D.known disk.old).tells ≡ true → IfOk result (λ owners. IsMap geometry (D.known disk.old).contents table.now owners.items) }
+    ensures refused { (D.known disk.old).tells ≡ true → IsDivided (D.known disk.old).contents geometry → is_open (gate geometry (D.known disk.old).contents 1) ≡ false
+        → IsTable (block_at (D.known disk.old).contents (table_at geometry)) table.now
+        → (fault : ImageFault) → IsErrOf result (Image fault) → IsTurnedDown (D.known disk.old).contents fault }
+    ensures cause { HasCause (D.known disk.old).faults (D.known disk.new).faults (IsErrOf result (Disk _)) }
+    ensures unchanged { Unchanged (D.known disk.old) (D.known disk.new) }
+    ensures goes { Goes (D.known disk.old) (D.known disk.new) }
+    ensures keeps { D.keeps disk.old disk.new }
+{
+    let lengths = lengths_of(table);
+    let map_at = geometry.map_at();
+    let map_blocks = geometry.area_from() - map_at;
+    let mut owners = Vec::with_capacity(alloc, (BLOCK_OWNERS * map_blocks) as usize)?;
+    for b in 0..map_blocks {
+        let block = map_at + b;
+        let map_block = read_block(disk, block)?;
+        let entries = geometry.blocks - BLOCK_OWNERS * b;
+        let found = owners_of(&map_block, &lengths, entries).ok_or(ImageFault::BadOwner { block })?;
+        push_owners(&mut owners, &found)?;
+    }
+    Ok(owners)
+}
+
+/// The lengths of the files of a table, by their places in it.
+fn lengths_of(table: &Table) -> [Option<u32>; 32]
+    requires { AreEntries table.now }
+    ensures { result ≡ lengths_of table.now }
+{
+    let mut lengths = [None; 32];
+    for e in 0..32 {
+        lengths[e as usize] = table.get(e).map(|entry| entry.length);
+    }
+    lengths
+}
+
+/// Puts the owners of one map block behind those of the ones before.
+fn push_owners(owners: &mut Vec<Option<(FileNo, u32)>>, found: &Owners) -> Result<(), AllocError>
+    requires { length found.now ≡ 128 }
+    ensures { OnOk result (owners.new.items ≡ owners.old.items ++ found.now) }
+{
+    for k in 0..BLOCK_OWNERS {
+        owners.push(found.get(k))?;
+    }
+    Ok(())
+}
