@@ -2,6 +2,7 @@ pub mod Bodies
 pub mod Causes
 pub mod ListBlocks
 pub mod ListsOf
+pub mod MapBlocks
 pub mod NumberBytes
 pub mod Numbered
 pub mod OneFault

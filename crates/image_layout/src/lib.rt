@@ -20,7 +20,7 @@ pub use gate::is_open;
 pub use laws::{opens_as_nothing, opens_as_said, opens_once};
 pub use opening::read_geometry;
 pub use owners::{Owners, owner_block, owners_of};
-pub use plain::{Opened, open_blocks};
+pub use plain::{Opened, lengths_of, open_blocks, push_owners};
 pub use superblock::{read_super, write_super};
 pub use table::{Table, TableEntry, table_block, table_of};
 pub use targets::{list_block, list_of, lists_read_back};

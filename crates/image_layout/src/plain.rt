@@ -101,8 +101,8 @@ fn read_owners(
     Ok(owners)
 }
 
-/// The lengths of the files of a table, by their places in it.
-fn lengths_of(table: &Table) -> [Option<u32>; 32]
+/// The lengths in blocks of the files of a table, by their places in it.
+pub fn lengths_of(table: &Table) -> [Option<u32>; 32]
     requires { AreEntries table.now }
     ensures { result ≡ lengths_of table.now }
 {
@@ -113,8 +113,11 @@ fn lengths_of(table: &Table) -> [Option<u32>; 32]
     lengths
 }
 
-/// Puts the owners of one map block behind those of the ones before.
-fn push_owners(owners: &mut Vec<Option<(FileNo, u32)>>, found: &Owners) -> Result<(), AllocError>
+/// Puts the owners of one map block behind those of the ones before. An `Err` says that there is no memory for them.
+pub fn push_owners(
+    owners: &mut Vec<Option<(FileNo, u32)>>,
+    found: &Owners,
+) -> Result<(), AllocError>
     requires { length found.now ≡ 128 }
     ensures { OnOk result (owners.new.items ≡ owners.old.items ++ found.now) }
 {

@@ -1,10 +1,14 @@
 -- What is read of a disk that stays as it is, and what an image stands for while its first gate is closed.
-use Rattle.std.proofs.Common.{◌≡◌, ℕ, true, false, inr, List, refl, ap, ◌∙◌, arith}
+use Rattle.std.proofs.Common.{◌≡◌, ◌≢◌, ℕ, true, false, inr, List, refl, ap, ◌∙◌, arith}
 use Rattle.nesc_base.specs.declared.block.Block.{Block}
 use Rattle.nesc_base.specs.declared.geometry.Geometry.{Geometry}
 use Rattle.nesc_base.specs.Disk.{Goes, Known, Unchanged}
+use Rattle.image_layout.specs.declared.fault.ImageFault.{ImageFault}
+use Rattle.image_layout.specs.declared.fault.ImageFault.TheVariants.{BadSuper, BadSize, BadList, BadTable, BadOwner, TwiceOwned}
 use Rattle.image_layout.specs.Gate.{is_open}
+use Rattle.image_layout.specs.Refusal.{IsRefused}
 use Rattle.image_layout.specs.Slots.{Lays, block_at, gate}
+use Rattle.image_opening.specs.Parts.{IsTurnedDown}
 
 -- a block that is read later was there at first
 pub block_here : (old now : Known) (block : Block) (place at : ℕ) → old.tells ≡ true → Goes old now → Unchanged old now
@@ -23,3 +27,12 @@ lays_itself geometry image closed = record {
   };
   over = refl;
 }
+
+-- an image that is refused before its slots are looked at is turned down
+pub turned_down : (image : List Block) (fault : ImageFault) → ((place : ℕ) → fault ≢ BadList place) → IsRefused image fault → IsTurnedDown image fault
+turned_down image (BadSuper place) kinds refused = refused
+turned_down image (BadSize place) kinds refused = refused
+turned_down image (BadList place) kinds refused = absurd (kinds place refl)
+turned_down image (BadTable place) kinds refused = refused
+turned_down image (BadOwner place) kinds refused = refused
+turned_down image (TwiceOwned file v) kinds refused = refused

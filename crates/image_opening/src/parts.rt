@@ -11,10 +11,11 @@ ghost use Rattle.image_layout.specs.Table.{AreEntries, IsTable};
 ghost use Rattle.image_opening.specs.Parts.{AreParts, IsTurnedDown};
 
 use image_layout::{
-    ImageFault, OpenFault, Owners, Table, is_open, owners_of, read_super, table_of,
+    ImageFault, OpenFault, Table, is_open, lengths_of, owners_of, push_owners, read_geometry,
+    table_of,
 };
 use nesc_base::{Block, Disk, FileNo, Geometry};
-use std::alloc::{AllocError, Global};
+use std::alloc::Global;
 
 /// How many data blocks a map block has the owners of.
 const BLOCK_OWNERS: u32 = 128;
@@ -45,7 +46,7 @@ pub fn read_parts<D: Disk>(alloc: Global, disk: &mut D) -> Result<Parts, OpenFau
     ensures goes { Goes (D.known disk.old) (D.known disk.new) }
     ensures keeps { D.keeps disk.old disk.new }
 {
-    let geometry = divide(disk)?;
+    let geometry = read_geometry(disk)?;
     let gate_at = geometry.slot_at(1);
     let gate = read_block(disk, gate_at)?;
     if is_open(&gate) {
@@ -60,32 +61,6 @@ pub fn read_parts<D: Disk>(alloc: Global, disk: &mut D) -> Result<Parts, OpenFau
         table,
         owners,
     })
-}
-
-/// How the image on the disk is divided.
-///
-/// `image_layout::read_geometry` reads the same, but its contract leaves room for a `BadList` of a later slot, which is
-/// none that `read_parts` may answer.
-fn divide<D: Disk>(disk: &mut D) -> Result<Geometry, OpenFault>
-    ensures divided { (D.known disk.old).tells ≡ true → IfOk result (IsDivided (D.known disk.old).contents) }
-    ensures refused { (D.known disk.old).tells ≡ true → (fault : ImageFault) → IsErrOf result (Image fault) → IsTurnedDown (D.known disk.old).contents fault }
-    ensures sizes { IfOk result IsGeometry }
-    ensures enough { IfOk result (λ geometry. total geometry ≤ (D.known disk.old).size) }
-    ensures cause { HasCause (D.known disk.old).faults (D.known disk.new).faults (IsErrOf result (Disk _)) }
-    ensures unchanged { Unchanged (D.known disk.old) (D.known disk.new) }
-    ensures goes { Goes (D.known disk.old) (D.known disk.new) }
-    ensures keeps { D.keeps disk.old disk.new }
-{
-    if disk.blocks() == 0 {
-        return Err(OpenFault::Image(ImageFault::BadSize { block: 0 }));
-    }
-    let first = read_block(disk, 0)?;
-    let geometry = read_super(&first).ok_or(ImageFault::BadSuper { block: 0 })?;
-    let blocks = disk.blocks();
-    if blocks < geometry.total() {
-        return Err(OpenFault::Image(ImageFault::BadSize { block: blocks }));
-    }
-    Ok(geometry)
 }
 
 /// The block at a place of the disk.
@@ -133,27 +108,4 @@ fn read_owners<D: Disk>(
         push_owners(&mut owners, &found)?;
     }
     Ok(owners)
-}
-
-/// The lengths of the files of a table, by their places in it.
-fn lengths_of(table: &Table) -> [Option<u32>; 32]
-    requires { AreEntries table.now }
-    ensures { result ≡ lengths_of table.now }
-{
-    let mut lengths = [None; 32];
-    for e in 0..32 {
-        lengths[e as usize] = table.get(e).map(|entry| entry.length);
-    }
-    lengths
-}
-
-/// Puts the owners of one map block behind those of the ones before.
-fn push_owners(owners: &mut Vec<Option<(FileNo, u32)>>, found: &Owners) -> Result<(), AllocError>
-    requires { length found.now ≡ 128 }
-    ensures { OnOk result (owners.new.items ≡ owners.old.items ++ found.now) }
-{
-    for k in 0..BLOCK_OWNERS {
-        owners.push(found.get(k))?;
-    }
-    Ok(())
 }

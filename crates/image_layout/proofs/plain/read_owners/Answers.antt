@@ -1,6 +1,4 @@
 use Rattle.std.proofs.Common.{◌≡◌, ℕ, ◌+◌, ◌*◌, ◌<◌, [], Err, List, Option, ◌++◌, inl, inr, length, take, drop, get_or, subst, sym, ap, ◌∙◌, arith, length-append, length-drop, rules}
-use Rattle.std.proofs.lemmas.Bool.{cases_lt}
-use Rattle.std.proofs.lemmas.List.{drop-append-le, drop_at, take-append-le, take_all}
 use Rattle.nesc_base.specs.Geometry.{map_at}
 use Rattle.image_layout.specs.declared.fault.ImageFault.TheVariants.{BadOwner}
 use Rattle.image_layout.specs.declared.fault.OpenFault.TheVariants.{Image}
@@ -8,26 +6,10 @@ use Rattle.image_layout.specs.Opens.{IsMapBlock}
 use Rattle.image_layout.specs.Owners.{Owner}
 use Rattle.image_layout.specs.Refusal.{IsRefused, LacksOwners}
 use Rattle.image_layout.specs.Slots.{block_at}
+use Rattle.image_layout.proofs.MapBlocks.{each_more}
 use Rattle.image_layout.proofs.SlotLemmas.{get_or-block_at}
 use Rattle.image_layout.proofs.plain.read_owners.Goals as goal
 use Rattle.image_layout.proofs.plain.read_owners.Goals.{After-owners_of}
-
--- what holds of each 128 of a list holds with 128 more behind it
-more : {X : Type 0} (P : ℕ → List X → Type 0) (b : ℕ) (xs found : List X) → length xs ≡ 128 * b → length found ≡ 128
-    → ((c : ℕ) → c < b → P c (take 128 (drop (128 * c) xs))) → P b found
-    → (c : ℕ) → c < b + 1 → P c (take 128 (drop (128 * c) (xs ++ found)))
-more P b xs found count size each here c below =
-    elim (cases_lt c b) [
-      | inl before ↦
-          let left : drop (128 * c) (xs ++ found) ≡ drop (128 * c) xs ++ found = drop-append-le (128 * c) xs found (omega arith) in
-          let front : take 128 (drop (128 * c) xs ++ found) ≡ take 128 (drop (128 * c) xs) =
-          take-append-le 128 (drop (128 * c) xs) found (omega (arith, length-drop (128 * c) xs)) in
-          subst (P c) (sym (ap (take 128) left ∙ front)) (each c before)
-      | inr last ↦
-          let same : b ≡ c = omega arith in
-          let all : take 128 (drop (128 * b) (xs ++ found)) ≡ found = ap (take 128) (drop_at xs found (128 * b) count) ∙ take_all 128 found (omega arith) in
-          subst (λ n. P n (take 128 (drop (128 * n) (xs ++ found)))) same (subst (P b) (sym all) here)
-    ]
 
 -- the block that was judged is the next of the map
 block_here : (c : After-owners_of) → get_or c.args.laid.now (c.map_at-map_at.result + c.loop-b.b) (record { 0 = [] }) ≡ block_at c.args.laid.now (map_at c.args.geometry + c.loop-b.b)
@@ -70,5 +52,5 @@ loop-b-preserved c =
     record {
       count = ap length put ∙ omega (arith, length-append c.loop-b.owners.items found, c.loop-b.invariant.count, here.count);
       each = λ b below. subst (λ (owners : List (Option Owner)). IsMapBlock c.args.geometry c.args.laid.now c.args.table.now b (take 128 (drop (128 * b) owners))) (sym put)
-          (more (IsMapBlock c.args.geometry c.args.laid.now c.args.table.now) c.loop-b.b c.loop-b.owners.items found c.loop-b.invariant.count here.count c.loop-b.invariant.each here b below);
+          (each_more (IsMapBlock c.args.geometry c.args.laid.now c.args.table.now) c.loop-b.b c.loop-b.owners.items found c.loop-b.invariant.count here.count c.loop-b.invariant.each here b below);
     }

@@ -1,6 +1,4 @@
-use Rattle.std.proofs.Common.{◌≡◌, ℕ, ◌+◌, ◌*◌, ◌<◌, ◌∙◌, Err, List, Option, ◌++◌, inl, inr, length, take, drop, subst, sym, ap, arith, length-append, length-drop, rules}
-use Rattle.std.proofs.lemmas.Bool.{cases_lt}
-use Rattle.std.proofs.lemmas.List.{drop-append-le, drop_at, take-append-le, take_all}
+use Rattle.std.proofs.Common.{◌≡◌, ℕ, ◌+◌, ◌*◌, ◌∙◌, Err, List, Option, length, take, drop, subst, sym, ap, arith, length-append, rules}
 use Rattle.nesc_base.specs.declared.block.Block.{Block}
 use Rattle.nesc_base.specs.Disk.{Known}
 use Rattle.nesc_base.specs.Geometry.{map_at}
@@ -11,26 +9,10 @@ use Rattle.image_layout.specs.Opens.{IsMapBlock}
 use Rattle.image_layout.specs.Owners.{Owner}
 use Rattle.image_layout.specs.Refusal.{LacksOwners}
 use Rattle.image_layout.specs.Slots.{block_at}
+use Rattle.image_layout.proofs.MapBlocks.{each_more}
 use Rattle.image_opening.specs.Parts.{IsTurnedDown}
 use Rattle.image_opening.proofs.PartsLemmas.{block_here, lays_itself}
 use Rattle.image_opening.proofs.parts.read_owners.Goals as goal
-
--- what holds of each 128 of a list holds with 128 more behind it
-more : {X : Type 0} (P : ℕ → List X → Type 0) (b : ℕ) (xs found : List X) → length xs ≡ 128 * b → length found ≡ 128
-    → ((c : ℕ) → c < b → P c (take 128 (drop (128 * c) xs))) → P b found
-    → (c : ℕ) → c < b + 1 → P c (take 128 (drop (128 * c) (xs ++ found)))
-more P b xs found count size each here c below =
-    elim (cases_lt c b) [
-      | inl before ↦
-          let left : drop (128 * c) (xs ++ found) ≡ drop (128 * c) xs ++ found = drop-append-le (128 * c) xs found (omega arith) in
-          let front : take 128 (drop (128 * c) xs ++ found) ≡ take 128 (drop (128 * c) xs) =
-          take-append-le 128 (drop (128 * c) xs) found (omega (arith, length-drop (128 * c) xs)) in
-          subst (P c) (sym (ap (take 128) left ∙ front)) (each c before)
-      | inr last ↦
-          let same : b ≡ c = omega arith in
-          let all : take 128 (drop (128 * b) (xs ++ found)) ≡ found = ap (take 128) (drop_at xs found (128 * b) count) ∙ take_all 128 found (omega arith) in
-          subst (λ n. P n (take 128 (drop (128 * n) (xs ++ found)))) same (subst (P b) (sym all) here)
-    ]
 
 pub returns-in_err-found-clause-refused : goal.returns-in_err-found-clause-refused
 returns-in_err-found-clause-refused g c tells divided closed table fault is =
@@ -79,7 +61,7 @@ loop-b-preserved g c =
           c.loop-b.invariant.goes c.loop-b.invariant.unchanged c.in_ok-map_block.ensures.block at in
           let here : IsMapBlock c.args.geometry image c.args.table.now c.loop-b.b found = rw (c.lengths_of-lengths.ensures, read) at are in
           λ b below. subst (λ (owners : List (Option Owner)). IsMapBlock c.args.geometry image c.args.table.now b (take 128 (drop (128 * b) owners))) (sym put)
-          (more (IsMapBlock c.args.geometry image c.args.table.now) c.loop-b.b c.loop-b.owners.items found c.loop-b.invariant.count are.count (c.loop-b.invariant.each tells) here b below);
+          (each_more (IsMapBlock c.args.geometry image c.args.table.now) c.loop-b.b c.loop-b.owners.items found c.loop-b.invariant.count are.count (c.loop-b.invariant.each tells) here b below);
       never_falls = omega (arith, c.loop-b.invariant.never_falls, c.read_block.ensures.cause.never_falls);
       unchanged = unchanged_on old now new c.loop-b.invariant.goes c.loop-b.invariant.unchanged c.read_block.ensures.unchanged;
       goes = goes_on old now new c.loop-b.invariant.goes c.read_block.ensures.goes;

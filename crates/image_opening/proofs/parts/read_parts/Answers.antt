@@ -1,4 +1,4 @@
-use Rattle.std.proofs.Common.{◌≡◌, Err, List, false, subst, sym, ap, ◌∙◌, rules}
+use Rattle.std.proofs.Common.{◌≡◌, Err, IsErrOf, List, false, subst, sym, ap, ◌∙◌, rules}
 use Rattle.nesc_base.specs.declared.block.Block.{Block}
 use Rattle.nesc_base.specs.declared.geometry.Geometry.{Geometry}
 use Rattle.nesc_base.specs.Disk.{Goes, Known, Unchanged}
@@ -10,20 +10,20 @@ use Rattle.image_layout.specs.Gate.{is_open}
 use Rattle.image_layout.specs.Refusal.{LacksTable}
 use Rattle.image_layout.specs.Slots.{block_at, gate}
 use Rattle.image_opening.specs.Parts.{IsTurnedDown}
-use Rattle.image_opening.proofs.PartsLemmas.{block_here, lays_itself}
+use Rattle.image_opening.proofs.PartsLemmas.{block_here, lays_itself, turned_down}
 use Rattle.image_opening.proofs.parts.read_parts.Goals as goal
 
 pub returns-in_err-table-clause-refused : goal.returns-in_err-table-clause-refused
 returns-in_err-table-clause-refused g c tells fault is =
     let old : Known = g.D.Disk.known c.args.disk.now in
-    let divided : Known = g.D.Disk.known c.divide.new.disk in
+    let divided : Known = g.D.Disk.known c.read_geometry.new.disk in
     let gated : Known = g.D.Disk.known c.read_block.new.disk in
     let image : List Block = old.contents in
     let geometry : Geometry = c.in_ok-geometry.geometry in
-    let stays : Unchanged old gated = unchanged_on old divided gated c.divide.ensures.goes c.divide.ensures.unchanged c.read_block.ensures.unchanged in
-    let goes : Goes old gated = goes_on old divided gated c.divide.ensures.goes c.read_block.ensures.goes in
+    let stays : Unchanged old gated = unchanged_on old divided gated c.read_geometry.ensures.goes c.read_geometry.ensures.unchanged c.read_block.ensures.unchanged in
+    let goes : Goes old gated = goes_on old divided gated c.read_geometry.ensures.goes c.read_block.ensures.goes in
     let gate_here : c.in_ok-gate.gate ≡ gate geometry image 1 =
-    block_here old divided c.in_ok-gate.gate c.slot_at-gate_at.result (slot_at geometry 1) tells c.divide.ensures.goes c.divide.ensures.unchanged
+    block_here old divided c.in_ok-gate.gate c.slot_at-gate_at.result (slot_at geometry 1) tells c.read_geometry.ensures.goes c.read_geometry.ensures.unchanged
     c.in_ok-gate.ensures.block c.slot_at-gate_at.ensures in
     let closed : is_open (gate geometry image 1) ≡ false = ap is_open (sym gate_here) ∙ sym c.is_open.ensures ∙ c.if-is_open.false in
     let here : c.in_ok-table_block.table_block ≡ block_at image (table_at geometry) =
@@ -42,3 +42,8 @@ returns-in_err-table-clause-refused g c tells fault is =
     let value = rw c.in_err-table.ensures.ok_part at c.in_err-table.ensures.value in
     let same : BadTable c.table_at-table_at.result ≡ fault = cc in
     subst (IsTurnedDown image) same lacks
+
+pub returns-in_err-geometry-clause-refused : goal.returns-in_err-geometry-clause-refused
+returns-in_err-geometry-clause-refused g c tells fault is =
+    let same : IsErrOf c.read_geometry.result (Image fault) = search rules in
+    turned_down (g.D.Disk.known c.args.disk.now).contents fault (λ place bad. c.read_geometry.ensures.kinds place (same ∙ ap (λ f. Err (Image f)) bad)) (c.read_geometry.ensures.refused tells fault same)
