@@ -8,7 +8,7 @@ use Rattle.nesc_base.specs.declared.block.Block.{Block}
 use Rattle.nesc_base.specs.Block.{zero_block}
 use Rattle.nesc_base.specs.Files.{Body, File, Files, IsFileSet}
 use Rattle.file_model.specs.Files.{Change, create, hold, put, Creates, Holds, Puts, Changes, with_zeros}
-use Rattle.file_model.proofs.Maps.{get-insert_same, get-insert_other}
+use Rattle.nesc_base.proofs.Maps.{get-insert_same, get-insert_other}
 
 -- the blocks of a body lie below a length
 abbrev pub IsHeldBelow : ℕ → Body → Type 0

@@ -9,7 +9,7 @@ use Rattle.file_model.specs.Files.{Changes, Holds, hold, holds, unheld, with_zer
 use Rattle.file_model.specs.PlainFile.{with_held}
 use Rattle.file_model.specs.PlainFiles.{AreHeld}
 use Rattle.file_model.proofs.Holding.{none_from_is_some}
-use Rattle.file_model.proofs.Maps.{get-insert_same}
+use Rattle.nesc_base.proofs.Maps.{get-insert_same}
 use Rattle.file_model.proofs.Writing.{IsSome-insert}
 
 All-kept : (P : ℕ → Type 0) (a : ℕ) (rest : List ℕ) (b : Bool) → (b ≡ true → P a) → AllByRecursion P rest → AllByRecursion P (cond b (a ∷ rest) rest)

@@ -7,7 +7,7 @@ use Rattle.nesc_base.specs.Block.{zero_block}
 use Rattle.nesc_base.specs.Files.{Body, File}
 use Rattle.file_model.specs.Files.{holds, unheld, with_zeros}
 use Rattle.file_model.specs.PlainFile.{with_block, with_held}
-use Rattle.file_model.proofs.Maps.{get-insert_other, remove-insert}
+use Rattle.nesc_base.proofs.Maps.{get-insert_other, remove-insert}
 
 -- one block more changes nothing behind it
 pub unheld-with_block : (file : File) (v : ℕ) (block : Block) (a n : ℕ) → v < a → unheld (with_block file v block) a n ≡ unheld file a n

@@ -9,7 +9,6 @@ pub mod Functions
 pub mod Handlings
 pub mod Held
 pub mod Holding
-pub mod Maps
 pub mod Names
 pub mod NeverStuck
 pub mod OneAnswer

@@ -6,7 +6,7 @@ use Rattle.nesc_base.specs.declared.block.Block.{Block}
 use Rattle.nesc_base.specs.Files.{Body, File, Files}
 use Rattle.file_model.specs.Files.{Puts, PutsEach}
 use Rattle.file_model.specs.PlainFiles.{AreHeld}
-use Rattle.file_model.proofs.Maps.{get-insert_same, get-insert_other}
+use Rattle.nesc_base.proofs.Maps.{get-insert_same, get-insert_other}
 
 -- and then one more
 pub PutsEach_more : (old : Files) (n v : ℕ) (blocks : List Block) (mid : Files) (block : Block) (new : Files) → PutsEach old n v blocks mid → Puts mid n (v + length blocks) block new → PutsEach old n v (blocks ++ block ∷ []) new

@@ -1,6 +1,5 @@
 -- The state of the plain machine.
 use Rattle.std.specs.Prelude.{ℕ, List, length, replicate}
-use Rattle.std.specs.FinMap.{empty}
 use Rattle.nesc_base.specs.Script.{Script}
 use Rattle.nesc_base.specs.Files.{Files}
 use Rattle.file_model.specs.Functions.{Function, off}
@@ -19,11 +18,12 @@ pub record State : Type 0 where
   -- what is left to give
   pub script : Script
 
--- the machine before its first step: no files, all functions off, one for each guest, and all is left
-abbrev pub start : ℕ → Script → State
-start depth script = record {
-  now = empty;
-  kept = empty;
+-- The machine before its first step: these files, which were kept last, all functions off, one for each guest, and all
+-- is left.
+abbrev pub start : Files → ℕ → Script → State
+start files depth script = record {
+  now = files;
+  kept = files;
   functions = replicate (length script.guests) off;
   last = 0;
   depth = depth;

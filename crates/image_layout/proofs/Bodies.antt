@@ -9,21 +9,21 @@ use Rattle.nesc_base.specs.declared.block.Block.{Block}
 use Rattle.nesc_base.specs.Files.{Body}
 use Rattle.image_layout.specs.Opens.{Repeats}
 use Rattle.image_layout.specs.Owners.{Owner}
-use Rattle.image_layout.proofs.Numbered.{get-insert_other, get-insert_same}
+use Rattle.nesc_base.proofs.Maps.{get-insert_other, get-insert_same}
 
 -- the owner is the block at v of file n
 abbrev pub IsAt : Owner → ℕ → ℕ → Type 0
 IsAt owner n v = (owner.0.0 ≡ n) × (owner.1 ≡ v)
 
 -- it is that block or not
-is_at_or_not : (owner : Owner) (n v : ℕ) → IsAt owner n v ⊎ (¬ IsAt owner n v)
+pub is_at_or_not : (owner : Owner) (n v : ℕ) → IsAt owner n v ⊎ (¬ IsAt owner n v)
 is_at_or_not owner n v = elim (cases_eq owner.0.0 n) [
   | inl file ↦ elim (cases_eq owner.1 v) [ inl place ↦ inl (file, place) | inr other ↦ inr (λ at. other at.1) ]
   | inr other ↦ inr (λ at. other at.0)
 ]
 
 -- such an owner is one
-one_at : (one other : Owner) (n v : ℕ) → IsAt one n v → IsAt other n v → one ≡ other
+pub one_at : (one other : Owner) (n v : ℕ) → IsAt one n v → IsAt other n v → one ≡ other
 one_at one other n v first second =
     let owner_of : ℕ → ℕ → Owner = λ m w. (record { 0 = m }, w) in
     ap (λ m. owner_of m one.1) (first.0 ∙ sym second.0) ∙ ap (owner_of other.0.0) (first.1 ∙ sym second.1)

@@ -4,7 +4,6 @@ pub mod ListBlocks
 pub mod ListsOf
 pub mod MapBlocks
 pub mod NumberBytes
-pub mod Numbered
 pub mod OneFault
 pub mod OneFiles
 pub mod OneLaid

@@ -1,5 +1,5 @@
 -- A map block and the whole map are read in one way.
-use Rattle.std.proofs.Common.{◌≡◌, ◌≢◌, ℕ, zero, suc, ◌+◌, ◌*◌, ◌/◌, ◌%◌, ◌^◌, ◌<◌, List, [], ◌∷◌, Option, Some, None, IfSome, length, take, drop, get_or, slice_get, refl, sym, ap, ◌∙◌, arith}
+use Rattle.std.proofs.Common.{◌≡◌, ℕ, zero, suc, ◌+◌, ◌*◌, ◌/◌, ◌%◌, ◌^◌, ◌<◌, List, [], ◌∷◌, Option, Some, None, take, drop, get_or, slice_get, refl, sym, ap, ◌∙◌, arith}
 use Rattle.std.proofs.lemmas.Option.{slice_get-get_or}
 use Rattle.byteorder.specs.Endian.{little_number}
 use Rattle.byteorder.specs.Numbers.{little_number-reads_back}
@@ -10,12 +10,9 @@ use Rattle.image_layout.specs.Bytes.{four_bytes}
 use Rattle.image_layout.specs.Opens.{IsMap, entries_in, lengths_of}
 use Rattle.image_layout.specs.Owners.{AreOwners, Owner, owner_block, owner_bytes}
 use Rattle.image_layout.proofs.OneReading.{same_items}
+use Rattle.image_layout.proofs.OwnersLemmas.{IsSpelledWhole, if_good, length-owner_bytes, spelled_whole}
 use Rattle.image_layout.proofs.Pieces.{piece, spelled-piece}
 use Rattle.image_layout.proofs.TableLemmas.{slice_get-take}
-
--- both of an owner's numbers fit the bytes that they are spelled in
-abbrev IsSpelledWhole : Option Owner → Type 0
-IsSpelledWhole owner = IfSome owner (λ o. (o.0.0 ≢ 0) × (o.0.0 < 2 ^ 16) × (o.1 < 2 ^ 32))
 
 -- an owner's bytes begin with its file
 file_spelled : (owner : Owner) → owner.0.0 < 2 ^ 16 → little_number 2 (owner_bytes (Some owner)) ≡ owner.0.0
@@ -33,20 +30,14 @@ owner_bytes-one (Some one) (Some other) whole whole' same =
     let owner_of : ℕ → ℕ → Option Owner = λ n v. Some (record { 0 = n }, v) in
     ap (λ n. owner_of n one.1) file ∙ ap (owner_of other.0.0) place
 
--- each has 8 bytes
-length-owner : (owner : Option Owner) → length (owner_bytes owner) ≡ 8
-length-owner None = refl
-length-owner (Some owner) = refl
-
 -- each of a map block is spelled whole, at its place
 module _ (lengths : List (Option ℕ)) (entries : ℕ) (block : Block) (owners : List (Option Owner)) (are : AreOwners lengths entries block owners) where
   whole_there : (k : ℕ) (owner : Option Owner) → slice_get owners k ≡ Some owner → IsSpelledWhole owner
-  whole_there k None at = tt
-  whole_there k (Some owner) at = let may = are.good k owner at in (may.numbered, may.in_two_bytes, may.in_four_bytes)
+  whole_there k owner at = spelled_whole lengths entries k owner (if_good lengths entries k owners owner at are.good)
 
   spelled_there : (k : ℕ) (owner : Option Owner) → slice_get owners k ≡ Some owner → piece 8 k block.0 ≡ owner_bytes owner
   unfolding owner_block
-  spelled_there k owner at = ap (λ (b : Block). piece 8 k b.0) are.spelling ∙ spelled-piece owner_bytes 8 owners (λ j x is. length-owner x) k owner at
+  spelled_there k owner at = ap (λ (b : Block). piece 8 k b.0) are.spelling ∙ spelled-piece owner_bytes 8 owners (λ j x is. length-owner_bytes x) k owner at
 
 -- so a block is no two map blocks
 pub one_owners : (lengths : List (Option ℕ)) (entries : ℕ) (block : Block) (one other : List (Option Owner))

@@ -13,11 +13,12 @@ use Rattle.image_layout.specs.Laws.{OpensAsSaid}
 use Rattle.image_layout.specs.Opens.{AreFiles, ArePlaces, IsHeld, IsMap, Places, entries_in, lengths_of}
 use Rattle.image_layout.specs.Owners.{MayOwn, Owner}
 use Rattle.image_layout.proofs.Bodies.{IsOnce, body_from_held, body_of, held_from_body}
-use Rattle.image_layout.proofs.Numbered.{found, get_before, get_from, map_from}
+use Rattle.nesc_base.specs.Numbered.{map_from}
+use Rattle.nesc_base.proofs.Numbered.{found, get_before, get_from}
 use Rattle.image_layout.proofs.OneMap.{slice_get-among, slice_get-drop}
 
 -- an option that is some has a value
-some_there : {X : Type 0} (o : Option X) → IsSome o → (x : X) × (o ≡ Some x)
+pub some_there : {X : Type 0} (o : Option X) → IsSome o → (x : X) × (o ≡ Some x)
 some_there None some = absurd (false≢true some)
 some_there (Some x) some = (x, refl)
 
@@ -36,10 +37,10 @@ file_from geometry laid owners n entry = record { name = entry.name; length = en
 abbrev files_from : Geometry → List Block → List (Option TableEntry) → List (Option Owner) → Files
 files_from geometry laid entries owners = map_from (file_from geometry laid owners) 1 entries
 
-abbrev place_from : ℕ → Owner → ℕ × ℕ
+abbrev pub place_from : ℕ → Owner → ℕ × ℕ
 place_from at owner = (owner.0.0, owner.1)
 
-abbrev places_from : Geometry → List (Option Owner) → Places
+abbrev pub places_from : Geometry → List (Option Owner) → Places
 places_from geometry owners = map_from place_from (area_from geometry) owners
 
 -- an entry is that of its file
@@ -49,7 +50,7 @@ named_back geometry laid owners n None = refl
 named_back geometry laid owners n (Some entry) = refl
 
 -- they are the places of the owners
-are_places : (geometry : Geometry) (owners : List (Option Owner)) → ArePlaces geometry owners (places_from geometry owners)
+pub are_places : (geometry : Geometry) (owners : List (Option Owner)) → ArePlaces geometry owners (places_from geometry owners)
 are_places geometry owners = record {
   before = get_before place_from (area_from geometry) owners;
   each = get_from place_from (area_from geometry) owners;

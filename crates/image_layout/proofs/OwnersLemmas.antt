@@ -8,18 +8,22 @@ use Rattle.image_layout.specs.Owners.{AreOwners, MayOwn, Owner, owner_block, own
 use Rattle.image_layout.proofs.Pieces.{piece, spelled-piece}
 
 -- an entry has 8 bytes
-length-owner_bytes : (owner : Option Owner) → length (owner_bytes owner) ≡ 8
+pub length-owner_bytes : (owner : Option Owner) → length (owner_bytes owner) ≡ 8
 length-owner_bytes None = refl
 length-owner_bytes (Some owner) = refl
 
--- an owner that there may be is spelled by both of its numbers
+-- both of an owner's numbers fit the bytes that they are spelled in
+abbrev pub IsSpelledWhole : Option Owner → Type 0
+IsSpelledWhole owner = IfSome owner (λ o. (o.0.0 ≢ 0) × (o.0.0 < 2 ^ 16) × (o.1 < 2 ^ 32))
+
+-- those of an owner that there may be do
 pub spelled_whole : (lengths : List (Option ℕ)) (entries k : ℕ) (owner : Option Owner) → IfSome owner (MayOwn lengths entries k)
-    → IfSome owner (λ o. (o.0.0 ≢ 0) × (o.0.0 < 2 ^ 16) × (o.1 < 2 ^ 32))
+    → IsSpelledWhole owner
 spelled_whole lengths entries k None may = tt
 spelled_whole lengths entries k (Some owner) may = (may.numbered, may.in_two_bytes, may.in_four_bytes)
 
 -- an owner that each may have, from what holds of each owner that there is
-if_good : (lengths : List (Option ℕ)) (entries k : ℕ) (owners : List (Option Owner)) (owner : Option Owner) → slice_get owners k ≡ Some owner
+pub if_good : (lengths : List (Option ℕ)) (entries k : ℕ) (owners : List (Option Owner)) (owner : Option Owner) → slice_get owners k ≡ Some owner
     → ((j : ℕ) (o : Owner) → slice_get owners j ≡ Some (Some o) → MayOwn lengths entries j o) → IfSome owner (MayOwn lengths entries k)
 if_good lengths entries k owners None at good = tt
 if_good lengths entries k owners (Some owner) at good = good k owner at

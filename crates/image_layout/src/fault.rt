@@ -1,7 +1,7 @@
 ghost use Rattle.std.specs.Prelude.{◌≡◌};
 ghost use Rattle.image_layout.specs.declared.fault.OpenFault.TheVariants.{Image, NoMemory};
 
-use nesc_base::{DiskFault, FileNo};
+use nesc_base::{DiskFault, FileNo, NoMemory};
 use std::alloc::AllocError;
 use thiserror::Error;
 
@@ -46,6 +46,14 @@ impl From<AllocError> for OpenFault {
     ghost from_gives = { λ _ e. e ≡ NoMemory };
 
     fn from(_e: AllocError) -> OpenFault {
+        OpenFault::NoMemory
+    }
+}
+
+impl From<NoMemory> for OpenFault {
+    ghost from_gives = { λ _ e. e ≡ NoMemory };
+
+    fn from(_e: NoMemory) -> OpenFault {
         OpenFault::NoMemory
     }
 }

@@ -161,7 +161,7 @@ mod tests {
             ("a file past the last", 0, b"\x03"),
             ("a file of a high number", 1, b"\x01"),
             ("a block at the file's length", 4, b"\x0a"),
-            ("bytes that are zeros", 2, b"\x01"),
+            ("zero bytes that are not zero", 2, b"\x01"),
             ("an entry past the last", 8 * 100, b"\x01\0\0\0\x04"),
             ("a block of no file", 8 + 4, b"\x01"),
         ];

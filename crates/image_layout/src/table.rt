@@ -48,6 +48,13 @@ impl Table {
         self.entries[e as usize]
     }
 
+    /// All entries, that of file 1 first.
+    pub fn entries(&self) -> &[Option<TableEntry>]
+        ensures { result.now ≡ self.now }
+    {
+        &self.entries
+    }
+
     /// Puts an entry at a place, counted from 0.
     pub fn set(&mut self, e: u32, entry: Option<TableEntry>)
         requires { e < 32 }
@@ -188,7 +195,7 @@ mod tests {
             ("a name of capitals", 8, b"A"),
             ("a name that ends before its length", 1, b"\x02"),
             ("no name", 1, b"\0\0\0\0\x0a\0\0\0\0"),
-            ("bytes that are zeros", 2, b"\x01"),
+            ("zero bytes that are not zero", 2, b"\x01"),
             ("padding that is not zero", 31, b"\x01"),
             ("a name longer than its length", 9, b"b"),
             ("a length of 1,048,577", 4, b"\x01\0\x10"),

@@ -1,14 +1,15 @@
 -- What is read of an image on a disk before its journal is replayed by anybody.
-use Rattle.std.specs.Prelude.{◌≡◌, ℕ, true, false, List, Option}
+use Rattle.std.specs.Prelude.{◌≡◌, ℕ, ◌*◌, true, false, List, length, Option, Some, slice_get}
 use Rattle.nesc_base.specs.declared.block.Block.{Block}
 use Rattle.nesc_base.specs.declared.geometry.Geometry.{Geometry}
-use Rattle.nesc_base.specs.Geometry.{table_at}
+use Rattle.nesc_base.specs.Files.{Files}
+use Rattle.nesc_base.specs.Geometry.{map_blocks, table_at}
 use Rattle.image_layout.specs.declared.fault.ImageFault.{ImageFault}
 use Rattle.image_layout.specs.declared.fault.ImageFault.TheVariants.{BadList}
 use Rattle.image_layout.specs.declared.table.TableEntry.{TableEntry}
 use Rattle.image_layout.specs.Gate.{is_open}
-use Rattle.image_layout.specs.Opens.{IsDivided, IsMap}
-use Rattle.image_layout.specs.Owners.{Owner}
+use Rattle.image_layout.specs.Opens.{IsDivided, IsMap, Opens, Places, lengths_of}
+use Rattle.image_layout.specs.Owners.{MayOwn, Owner}
 use Rattle.image_layout.specs.Refusal.{IsRefused}
 use Rattle.image_layout.specs.Slots.{block_at, gate}
 use Rattle.image_layout.specs.Table.{IsTable}
@@ -21,6 +22,18 @@ pub record AreParts (image : List Block) (geometry : Geometry) (entries : List (
   pub table : IsTable (block_at image (table_at geometry)) entries
   pub owned : IsMap geometry image entries owners
 
+-- so many owners as an image of this division has, each of a data block and of a file that may own it
+pub record MayAllOwn (geometry : Geometry) (entries : List (Option TableEntry)) (owners : List (Option Owner)) : Type 0 where
+  pub count : length owners ≡ 128 * map_blocks geometry
+  pub each : (k : ℕ) (owner : Owner) → slice_get owners k ≡ Some (Some owner) → MayOwn (lengths_of entries) geometry.blocks k owner
+
+-- the image opens as these files, and no slot is to be replayed
+pub record OpensAsItIs (image : List Block) (files : Files) : Type 0 where
+  pub geometry : Geometry
+  pub places : Places
+  pub opens : Opens image geometry files places
+  pub closed : is_open (gate geometry image 1) ≡ false
+
 -- the first gate is open, and the place is where its list begins
 pub record HasOpenGate (image : List Block) (place : ℕ) : Type 0 where
   pub geometry : Geometry
@@ -32,3 +45,7 @@ pub record HasOpenGate (image : List Block) (place : ℕ) : Type 0 where
 abbrev pub IsTurnedDown : List Block → ImageFault → Type 0
 IsTurnedDown image (BadList place) = HasOpenGate image place
 IsTurnedDown image fault = IsRefused image fault
+
+-- an image that opens as it is is turned down for no cause
+abbrev pub OpensOrIsTurnedDown : List Block → Type 0
+OpensOrIsTurnedDown image = (files : Files) (fault : ImageFault) → OpensAsItIs image files → ¬ IsTurnedDown image fault

@@ -1,9 +1,11 @@
 //! Opening an image on a disk: its parts are read and judged.
 #![tactic(auto)]
 
+mod laws;
 mod parts;
 
-pub use parts::{Parts, read_parts};
+pub use laws::opens_or_is_turned_down;
+pub use parts::{Parts, read_block, read_parts};
 
 #[cfg(test)]
 mod tests;

@@ -8,7 +8,7 @@ ghost use Rattle.image_layout.specs.Gate.{is_open};
 ghost use Rattle.image_layout.specs.Opens.{IsDivided, IsMap, lengths_of};
 ghost use Rattle.image_layout.specs.Slots.{block_at, gate};
 ghost use Rattle.image_layout.specs.Table.{AreEntries, IsTable};
-ghost use Rattle.image_opening.specs.Parts.{AreParts, IsTurnedDown};
+ghost use Rattle.image_opening.specs.Parts.{AreParts, IsTurnedDown, MayAllOwn};
 
 use image_layout::{
     ImageFault, OpenFault, Table, is_open, lengths_of, owners_of, push_owners, read_geometry,
@@ -41,6 +41,7 @@ pub fn read_parts<D: Disk>(alloc: Global, disk: &mut D) -> Result<Parts, OpenFau
     ensures refused { (D.known disk.old).tells ≡ true → (fault : ImageFault) → IsErrOf result (Image fault) → IsTurnedDown (D.known disk.old).contents fault }
     ensures sizes { IfOk result (λ parts. IsGeometry parts.geometry × (total parts.geometry ≤ (D.known disk.old).size)) }
     ensures entries { IfOk result (λ parts. AreEntries parts.table) }
+    ensures owners { IfOk result (λ parts. MayAllOwn parts.geometry parts.table parts.owners.items) }
     ensures cause { HasCause (D.known disk.old).faults (D.known disk.new).faults (IsErrOf result (Disk _)) }
     ensures unchanged { Unchanged (D.known disk.old) (D.known disk.new) }
     ensures goes { Goes (D.known disk.old) (D.known disk.new) }
@@ -63,8 +64,8 @@ pub fn read_parts<D: Disk>(alloc: Global, disk: &mut D) -> Result<Parts, OpenFau
     })
 }
 
-/// The block at a place of the disk.
-fn read_block<D: Disk>(disk: &mut D, at: u32) -> Result<Block, OpenFault>
+/// The block at a place of the disk. `Disk` comes only where the disk failed, and nothing else is answered.
+pub fn read_block<D: Disk>(disk: &mut D, at: u32) -> Result<Block, OpenFault>
     requires { at < (D.known disk.old).size }
     ensures block { MatchResult result (λ block. (D.known disk.old).tells ≡ true → block ≡ block_at (D.known disk.old).contents at) (λ fault. fault ≡ Disk _) }
     ensures cause { HasCause (D.known disk.old).faults (D.known disk.new).faults (IsErrOf result (Disk _)) }
@@ -87,6 +88,7 @@ fn read_owners<D: Disk>(
     requires sizes { IsGeometry geometry }
     requires enough { total geometry ≤ (D.known disk.old).size }
     requires table { AreEntries table.now }
+    ensures owners { IfOk result (λ owners. MayAllOwn geometry table.now owners.items) }
     ensures owned { (D.known disk.old).tells ≡ true → IfOk result (λ owners. IsMap geometry (D.known disk.old).contents table.now owners.items) }
     ensures refused { (D.known disk.old).tells ≡ true → IsDivided (D.known disk.old).contents geometry → is_open (gate geometry (D.known disk.old).contents 1) ≡ false
         → IsTable (block_at (D.known disk.old).contents (table_at geometry)) table.now

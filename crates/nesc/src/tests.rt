@@ -1,9 +1,11 @@
-use crate::without_memory;
-use nesc_base::{Block, Disk};
-use nesc_fakes::{MemDisk, MemSink, MemSource, SlowSink, SlowSource};
+mod making;
+mod opening;
+mod running;
+
+use nesc_base::Block;
+use nesc_fakes::{MemDisk, MemSink, MemSource};
 use nesc_monitor::{Status, run};
 use std::alloc::{AllocError, Global};
-use std::test::Fail;
 
 /// What `run` answers, and what it writes on the two sinks.
 #[derive(Drop)]
@@ -21,14 +23,58 @@ fn line_of(alloc: Global, words: &[&str]) -> Result<Vec<String>, AllocError> {
     Ok(line)
 }
 
-/// A disk of no blocks, of which nothing is asked.
+/// A disk of no blocks.
 fn no_disk(alloc: Global) -> MemDisk {
     MemDisk::new(alloc, Vec::new(alloc), Vec::new(alloc), Vec::new(alloc))
 }
 
-fn tell(alloc: Global, words: &[&str], commands: &str, schedule: &str) -> Result<Told, AllocError> {
+/// The block that has these bytes from these places on, and else zeros.
+fn block_of(pieces: &[(usize, &[u8])]) -> Block {
+    let mut block = Block::zero();
+    for (at, bytes) in pieces {
+        for (to, from) in block.0.iter_mut().skip(*at).zip(*bytes) {
+            *to = *from;
+        }
+    }
+    block
+}
+
+/// The superblock of the least image.
+fn superblock() -> Block {
+    block_of(&[(0, b"NESCHOST\x01\0\0\0\x10\0\0\0\x40\0\0\0\x23\x01")])
+}
+
+/// A disk of so many blocks of zeros but for these, of which these reads fail.
+fn disk_of(
+    alloc: Global,
+    size: usize,
+    blocks: &[(usize, Block)],
+    fails: &[u64],
+) -> Result<MemDisk, AllocError> {
+    let mut image = vec![in alloc; Block::zero(); size]?;
+    for (at, block) in blocks {
+        if let Some(place) = image.get_mut(*at) {
+            *place = *block;
+        }
+    }
+    let fails = Vec::from_slice(alloc, fails)?;
+    Ok(MemDisk::new(alloc, image, fails, Vec::new(alloc)))
+}
+
+/// The least image, of no files.
+fn new_image(alloc: Global) -> Result<MemDisk, AllocError> {
+    disk_of(alloc, 291, &[(0, superblock())], &[])
+}
+
+/// What `run` answers to words, two texts and an image.
+fn tell_over(
+    alloc: Global,
+    words: &[&str],
+    commands: &str,
+    schedule: &str,
+    image: &mut MemDisk,
+) -> Result<Told, AllocError> {
     let line = line_of(alloc, words)?;
-    let mut image = no_disk(alloc);
     let mut spare = no_disk(alloc);
     let mut commands = MemSource::new(
         Vec::from_slice(alloc, commands.as_bytes())?,
@@ -45,500 +91,10 @@ fn tell(alloc: Global, words: &[&str], commands: &str, schedule: &str) -> Result
         line.as_slice(),
         &mut commands,
         &mut schedule,
-        &mut image,
+        image,
         &mut spare,
         &mut out,
         &mut err,
     );
     Ok(Told { status, out, err })
-}
-
-const GUEST_COMMANDS: &str = r#"host = ["create a 10", "attach 1 a"]
-    guest = [["w 3 1111111111111111", "r 2 3"]]"#;
-
-const GUEST_SCHEDULE: &str = "h h g1 g1 t i1 t t t t";
-
-const GUEST_TRACE: &str =
-    "h ok\nh ok\ng 1 1\ng 1 2\nt 1 3 miss unmapped 0\ni 1 hold 1\nt 1 3 walk 0\nr 1 1 ok 1\nt 1 2 hole 0\nt 1 3 walk 0\nt 1 4 hole 0\nr 1 2 ok 3 z 1111111111111111 z\ndone 10\n";
-
-/// The status of `run` over sources and a sink of which these calls fail, and what the sinks have taken.
-fn tell_failing(alloc: Global, schedule: &str, fails: [&[u64]; 3]) -> Result<Told, AllocError> {
-    let [commands_fail, schedule_fail, out_fail] = fails;
-    let mut commands = MemSource::new(
-        Vec::from_slice(alloc, GUEST_COMMANDS.as_bytes())?,
-        Vec::from_slice(alloc, commands_fail)?,
-    );
-    let mut schedule = MemSource::new(
-        Vec::from_slice(alloc, schedule.as_bytes())?,
-        Vec::from_slice(alloc, schedule_fail)?,
-    );
-    let mut out = MemSink::new(alloc, Vec::from_slice(alloc, out_fail)?);
-    let mut err = MemSink::new(alloc, Vec::new(alloc));
-    let words = line_of(alloc, &["run"])?;
-    let mut image = no_disk(alloc);
-    let mut spare = no_disk(alloc);
-    let status = run(
-        alloc,
-        words.as_slice(),
-        &mut commands,
-        &mut schedule,
-        &mut image,
-        &mut spare,
-        &mut out,
-        &mut err,
-    );
-    Ok(Told { status, out, err })
-}
-
-#[test]
-fn each_failure_is_told(rt: HostRuntime) -> Result<(), Fail> {
-    let alloc = rt.alloc();
-    let none: &[u64] = &[];
-    for (fails, status, err) in [
-        ([none, none, none], Status::Done, ""),
-        ([&[1], none, none], Status::Read, "nesc: read\n"),
-        ([&[2], none, none], Status::Read, "nesc: read\n"),
-        ([none, &[1], none], Status::Read, "nesc: read\n"),
-        ([none, &[2], none], Status::Read, "nesc: read\n"),
-        ([none, none, &[1]], Status::Write, "nesc: write\n"),
-    ] {
-        let told = tell_failing(alloc, GUEST_SCHEDULE, fails)?;
-        let out = if status == Status::Done {
-            GUEST_TRACE
-        } else {
-            ""
-        };
-        assert_eq!(rt; told.status, status);
-        assert_eq!(rt; told.out.bytes(), out.as_bytes());
-        assert_eq!(rt; told.err.bytes(), err.as_bytes());
-    }
-    // A trace of many pieces, cut short at the third.
-    let told = tell_failing(alloc, "h h t*100000", [none, none, &[3]])?;
-    assert_eq!(rt; told.status, Status::Write);
-    let front = told.out.bytes();
-    assert!(rt; front.starts_with(b"h ok\nh ok\nt idle\nt idle\n"));
-    assert!(rt; front.len() > 1000 && front.len() < 700_000);
-    Ok(())
-}
-
-#[test]
-fn want_of_memory_is_told(rt: HostRuntime) {
-    let alloc = rt.alloc();
-    let mut err = MemSink::new(alloc, Vec::new(alloc));
-    assert_eq!(rt; without_memory(&mut err), Status::Memory);
-    assert_eq!(rt; err.bytes(), b"nesc: memory\n".as_slice());
-}
-
-#[test]
-fn pieces_of_one_byte_give_the_same(rt: HostRuntime) -> Result<(), Fail> {
-    let alloc = rt.alloc();
-    let words = line_of(alloc, &["run"])?;
-    let mut image = no_disk(alloc);
-    let mut spare = no_disk(alloc);
-    let mut commands = SlowSource::new(Vec::from_slice(alloc, GUEST_COMMANDS.as_bytes())?, 1);
-    let mut schedule = SlowSource::new(Vec::from_slice(alloc, GUEST_SCHEDULE.as_bytes())?, 1);
-    let mut out = SlowSink::new(alloc, 1);
-    let mut err = SlowSink::new(alloc, 1);
-    let status = run(
-        alloc,
-        words.as_slice(),
-        &mut commands,
-        &mut schedule,
-        &mut image,
-        &mut spare,
-        &mut out,
-        &mut err,
-    );
-    assert_eq!(rt; status, Status::Done);
-    assert_eq!(rt; out.bytes(), GUEST_TRACE.as_bytes());
-    assert!(rt; err.bytes().is_empty());
-    Ok(())
-}
-
-/// So many times one text, between two others.
-fn times(alloc: Global, front: &str, piece: &str, n: u32, end: &str) -> Result<String, AllocError> {
-    let mut text = String::from_str(alloc, front)?;
-    for _ in 0..n {
-        text.push_str(piece)?;
-    }
-    text.push_str(end)?;
-    Ok(text)
-}
-
-#[test]
-fn each_limit_has_two_sides(rt: HostRuntime) -> Result<(), Fail> {
-    let alloc = rt.alloc();
-    let name_24 = "host = ['create abcdefghijklmnopqrstuvwx 0']";
-    let name_25 = "host = ['create abcdefghijklmnopqrstuvwxy 0']";
-    for (accepted, refused) in [
-        (name_24, name_25),
-        ("host = ['create a 1048576']", "host = ['create a 1048577']"),
-        (
-            "host = ['create a 0000000001']",
-            "host = ['create a 00000000001']",
-        ),
-        ("host = ['get a 1048575 1']", "host = ['get a 1048576 1']"),
-        ("host = ['get a 0 1']", "host = ['get a 0 0']"),
-        ("host = ['get a 0 64']", "host = ['get a 0 65']"),
-        (
-            "host = ['put a 0 1111111111111111']",
-            "host = ['put a 0 111111111111111']",
-        ),
-        ("host = ['put  a 0 z']", "host = ['put a 0 z  ']"),
-        ("host = ['attach 1 a']", "host = ['attach 2 a']"),
-        ("host = []", "host = ['']"),
-        ("guest = []", "guests = []"),
-        ("guest = [[]]", "guest = ['r 0 1']"),
-        ("guest = [['r 1048575 64']]", "guest = [['r 1048576 1']]"),
-        ("guest = [['w 0 z']]", "guest = [['w 0']]"),
-        ("guest = [[]]", "guest = [[], []]"),
-        ("", "host = 'create a 1'"),
-        ("", "host = [1]"),
-        ("", "guest = [[1]]"),
-        ("", "host = [['create a 1']]"),
-    ] {
-        let told = tell(alloc, &["run"], accepted, "")?;
-        assert_eq!(rt; told.status, Status::Done, "at {accepted:?}");
-        let told = tell(alloc, &["run"], refused, "")?;
-        assert_eq!(rt; told.status, Status::Input, "at {refused:?}");
-        assert_eq!(rt; told.err.bytes(), b"nesc: input commands\n".as_slice());
-    }
-    for (accepted, refused) in [
-        ("t*1", "t*0"),
-        ("t*0000000001", "t*00000000001"),
-        ("g1", "g2"),
-        ("i01", "i0"),
-        ("t*1048576", "t*1048577"),
-    ] {
-        let told = tell(alloc, &["run"], "", accepted)?;
-        assert_eq!(rt; told.status, Status::Done, "at {accepted:?}");
-        let told = tell(alloc, &["run"], "", refused)?;
-        assert_eq!(rt; told.status, Status::Input, "at {refused:?}");
-        assert_eq!(rt; told.err.bytes(), b"nesc: input schedule\n".as_slice());
-    }
-    Ok(())
-}
-
-#[test]
-fn large_texts_have_limits(rt: HostRuntime) -> Result<(), Fail> {
-    let alloc = rt.alloc();
-    for (n, status) in [(64, Status::Done), (65, Status::Input)] {
-        let commands = times(alloc, "host = ['put a 0", " z", n, "']")?;
-        let told = tell(alloc, &["run"], commands.as_str(), "")?;
-        assert_eq!(rt; told.status, status);
-    }
-    for (end, status) in [("", Status::Done), (", 'r 0 1'", Status::Input)] {
-        let commands = times(alloc, "guest = [['r 0 64'", ", 'r 0 64'", 4095, end)?;
-        let commands = times(alloc, commands.as_str(), "", 0, "]]")?;
-        let told = tell(alloc, &["run"], commands.as_str(), "")?;
-        assert_eq!(rt; told.status, status);
-    }
-    for (n, status) in [(1_048_576, Status::Done), (1_048_577, Status::Input)] {
-        let text = times(alloc, "", "                ", n, "")?;
-        let told = tell(alloc, &["run"], "", text.as_str())?;
-        assert_eq!(rt; told.status, status);
-        let told = tell(alloc, &["run"], text.as_str(), "")?;
-        assert_eq!(rt; told.status, status);
-    }
-    Ok(())
-}
-
-#[test]
-fn answers_and_refusals(rt: HostRuntime) -> Result<(), Fail> {
-    let first_file = r#"host = ["create a 4", "put a 0 2222222222222222", "get a 0 2"]"#;
-    for (words, commands, schedule, status, out, err) in [
-        (
-            ["run"].as_slice(),
-            first_file,
-            "h h h",
-            Status::Done,
-            "h ok\nh ok\nh data 2222222222222222 z\ndone 3\n",
-            "",
-        ),
-        (&["run"], "", "", Status::Done, "done 0\n", ""),
-        (
-            &["run"],
-            "",
-            "h\r\n\th",
-            Status::Done,
-            "h end\nh end\ndone 2\n",
-            "",
-        ),
-        (
-            &["run"],
-            r#"host = ["get a 0 1", "put a 5 z", "create a 2", "create a 3", "put a 1 z z", "get a 2 1", "get a 1 1"]"#,
-            "h h h h h h h",
-            Status::Done,
-            "h nofile\nh nofile\nh ok\nh exists\nh range\nh range\nh data z\ndone 7\n",
-            "",
-        ),
-        (
-            &["run"],
-            "",
-            "x",
-            Status::Input,
-            "",
-            "nesc: input schedule\n",
-        ),
-        (
-            &["run"],
-            "guests = []",
-            "x",
-            Status::Input,
-            "",
-            "nesc: input commands\n",
-        ),
-        (
-            &["run"],
-            r#"host = ["create A 4"]"#,
-            "",
-            Status::Input,
-            "",
-            "nesc: input commands\n",
-        ),
-        (&[], "", "", Status::Words, "", "nesc: words\n"),
-        (
-            &["run", "extra"],
-            "",
-            "",
-            Status::Words,
-            "",
-            "nesc: words\n",
-        ),
-    ] {
-        let told = tell(rt.alloc(), words, commands, schedule)?;
-        assert_eq!(rt; told.status, status, "at {commands:?} {schedule:?}");
-        assert_eq!(rt;
-            told.out.bytes(),
-            out.as_bytes(),
-            "at {commands:?} {schedule:?}"
-        );
-        assert_eq!(rt;
-            told.err.bytes(),
-            err.as_bytes(),
-            "at {commands:?} {schedule:?}"
-        );
-    }
-    Ok(())
-}
-
-#[test]
-fn one_guest_is_served(rt: HostRuntime) -> Result<(), Fail> {
-    let waits = r#"host = ["create a 1", "attach 1 a"]
-        guest = [["w 0 1111111111111111"]]"#;
-    let asks_too_much = r#"host = ["create a 1", "attach 1 a"]
-        guest = [["r 0 1", "r 0 1", "r 0 1", "r 0 1", "r 0 1"]]"#;
-    let ends_past = r#"host = ["create a 4", "attach 1 a"]
-        guest = [["w 2 1111111111111111 2222222222222222 3333333333333333 4444444444444444"]]"#;
-    let one_is_held = r#"host = ["create a 4", "put a 1 aaaaaaaaaaaaaaaa", "attach 1 a"]
-        guest = [["w 0 1111111111111111 2222222222222222", "r 0 2"]]"#;
-    let reads_past = r#"host = ["create a 2", "attach 1 a"]
-        guest = [["r 1 3"]]"#;
-    let host_puts = r#"host = ["create a 4", "attach 1 a", "put a 3 aaaaaaaaaaaaaaaa", "get a 3 1"]
-        guest = [["w 3 1111111111111111"]]"#;
-    let attaches = r#"host = ["attach 1 a", "create a 1", "attach 1 a", "attach 1 a"]"#;
-    for (commands, schedule, out) in [
-        (
-            waits,
-            "t h h t i1 g1 t t h i1 i1 t",
-            "t idle\nh ok\nh ok\nt idle\ni 1 none\ng 1 1\nt 1 0 miss unmapped 0\nt idle\nh end\ni 1 hold 1\ni 1 none\nt 1 0 walk 0\nr 1 1 ok 1\ndone 12\n",
-        ),
-        (
-            asks_too_much,
-            "g1 h h g1 g1 g1 g1 g1 t g1 g1",
-            "g 1 off\nh ok\nh ok\ng 1 1\ng 1 2\ng 1 3\ng 1 4\ng 1 full\nt 1 0 hole 0\nr 1 1 ok 1 z\ng 1 5\ng 1 end\ndone 11\n",
-        ),
-        (
-            ends_past,
-            "h h g1 t i1 t*3",
-            "h ok\nh ok\ng 1 1\nt 1 2 miss unmapped 0\ni 1 hold 2\nt 1 2 walk 0\nt 1 3 walk 0\nt 1 4 range\nr 1 1 range 2\ndone 8\n",
-        ),
-        (
-            one_is_held,
-            "h h h g1 g1 t i1 t*4",
-            "h ok\nh ok\nh ok\ng 1 1\ng 1 2\nt 1 0 miss unmapped 0\ni 1 hold 1\nt 1 0 walk 0\nt 1 1 walk 0\nr 1 1 ok 2\nt 1 0 walk 0\nt 1 1 walk 0\nr 1 2 ok 2 1111111111111111 2222222222222222\ndone 11\n",
-        ),
-        (
-            reads_past,
-            "h h g1 t t",
-            "h ok\nh ok\ng 1 1\nt 1 1 hole 0\nt 1 2 range\nr 1 1 range 1\ndone 5\n",
-        ),
-        (
-            host_puts,
-            "h h g1 t h i1 t h",
-            "h ok\nh ok\ng 1 1\nt 1 3 miss unmapped 0\nh ok\ni 1 hold 0\nt 1 3 walk 0\nr 1 1 ok 1\nh data 1111111111111111\ndone 8\n",
-        ),
-        (
-            attaches,
-            "h h h h",
-            "h nofile\nh ok\nh ok\nh functiontaken\ndone 4\n",
-        ),
-    ] {
-        let told = tell(rt.alloc(), &["run"], commands, schedule)?;
-        assert_eq!(rt; told.status, Status::Done, "at {commands:?} {schedule:?}");
-        assert_eq!(rt;
-            told.out.bytes(),
-            out.as_bytes(),
-            "at {commands:?} {schedule:?}"
-        );
-    }
-    Ok(())
-}
-
-#[test]
-fn most_files_and_most_blocks(rt: HostRuntime) -> Result<(), Fail> {
-    let alloc = rt.alloc();
-    let mut commands = String::from_str(alloc, "host = [")?;
-    let mut schedule = String::new(alloc);
-    let mut want = String::new(alloc);
-    for file in 0..33 {
-        commands.push_str(format!(in alloc; "'create f{file} 64',")?.as_str())?;
-        schedule.push_str("h ")?;
-        want.push_str(if file < 32 { "h ok\n" } else { "h noslot\n" })?;
-    }
-    commands.push_str("'put f31 0")?;
-    let mut read = String::from_str(alloc, "h data")?;
-    for block in 0..64 {
-        let text = format!(in alloc; " 00000000000000{block:02x}")?;
-        commands.push_str(text.as_str())?;
-        read.push_str(if block == 0 { " z" } else { text.as_str() })?;
-    }
-    commands.push_str("', 'get f31 0 64']")?;
-    schedule.push_str("h h")?;
-    want.push_str("h ok\n")?;
-    want.push_str(read.as_str())?;
-    want.push_str("\ndone 35\n")?;
-    let told = tell(alloc, &["run"], commands.as_str(), schedule.as_str())?;
-    assert_eq!(rt; told.status, Status::Done);
-    assert_eq!(rt; told.out.bytes(), want.as_str().as_bytes());
-    Ok(())
-}
-
-/// What `make` answers over a disk of so many blocks, none of them zeros, of which these writes and syncs fail, and
-/// what the disk is then.
-fn make(
-    alloc: Global,
-    words: &[&str],
-    blocks: usize,
-    fails: &[u64],
-) -> Result<(Told, MemDisk), AllocError> {
-    let line = line_of(alloc, words)?;
-    let mut commands = MemSource::new(Vec::new(alloc), Vec::new(alloc));
-    let mut schedule = MemSource::new(Vec::new(alloc), Vec::new(alloc));
-    let old = vec![in alloc; Block([7; 1024]); blocks]?;
-    let mut image = MemDisk::new(alloc, old, Vec::new(alloc), Vec::from_slice(alloc, fails)?);
-    let mut spare = no_disk(alloc);
-    let mut out = MemSink::new(alloc, Vec::new(alloc));
-    let mut err = MemSink::new(alloc, Vec::new(alloc));
-    let status = run(
-        alloc,
-        line.as_slice(),
-        &mut commands,
-        &mut schedule,
-        &mut image,
-        &mut spare,
-        &mut out,
-        &mut err,
-    );
-    Ok((Told { status, out, err }, image))
-}
-
-#[test]
-fn an_image_is_made(rt: HostRuntime) -> Result<(), Fail> {
-    let alloc = rt.alloc();
-    for (words, blocks, out) in [
-        (["make", "--blocks", "16"].as_slice(), 291, "made 291\n"),
-        (
-            &["make", "--blocks", "016", "--slack", "64"],
-            291,
-            "made 291\n",
-        ),
-        (
-            &["make", "--blocks", "4096", "--slack", "256"],
-            5298,
-            "made 5298\n",
-        ),
-    ] {
-        let (told, image) = make(alloc, words, blocks, &[])?;
-        assert_eq!(rt; told.status, Status::Done, "at {words:?}");
-        assert_eq!(rt; told.out.bytes(), out.as_bytes());
-        assert!(rt; told.err.bytes().is_empty());
-        let made = image.contents();
-        assert!(rt;
-            made.first()
-                .is_some_and(|block| block.0.starts_with(b"NESCHOST"))
-        );
-        assert!(rt; made.get(1) == Some(&Block::zero()));
-        assert!(rt; made.get(2) == Some(&Block([7; 1024])));
-        assert!(rt; made.last() == Some(&Block::zero()));
-    }
-    Ok(())
-}
-
-#[test]
-fn each_failure_of_making_is_told(rt: HostRuntime) -> Result<(), Fail> {
-    let alloc = rt.alloc();
-    let words = ["make", "--blocks", "16", "--slack", "64"];
-    // Four gates, the table, the map, the last data block, a sync, the superblock and a sync.
-    for call in 1..=10 {
-        let (told, image) = make(alloc, &words, 291, &[call])?;
-        assert_eq!(rt; told.status, Status::Device, "at {call}");
-        assert!(rt; told.out.bytes().is_empty());
-        assert_eq!(rt; told.err.bytes(), b"nesc: device\n".as_slice());
-        assert_eq!(rt; image.clock(), call);
-    }
-    let (told, image) = make(alloc, &words, 291, &[11])?;
-    assert_eq!(rt; told.status, Status::Done);
-    assert_eq!(rt; image.clock(), 10);
-    let (told, image) = make(alloc, &words, 290, &[])?;
-    assert_eq!(rt; told.status, Status::Image);
-    assert!(rt; told.out.bytes().is_empty());
-    assert_eq!(rt; told.err.bytes(), b"nesc: image size 290\n".as_slice());
-    assert_eq!(rt; image.clock(), 0);
-    Ok(())
-}
-
-#[test]
-fn words_are_judged(rt: HostRuntime) -> Result<(), Fail> {
-    let alloc = rt.alloc();
-    for (words, status) in [
-        (["make", "--blocks", "16"].as_slice(), Status::Image),
-        (
-            &["make", "--blocks", "65536", "--slack", "1024"],
-            Status::Image,
-        ),
-        (&["make", "--blocks", "0000000000000000016"], Status::Image),
-        (&["make"], Status::Words),
-        (&["make", "--blocks"], Status::Words),
-        (&["make", "--blocks", "15"], Status::Words),
-        (&["make", "--blocks", "65537"], Status::Words),
-        (&["make", "--blocks", "-16"], Status::Words),
-        (&["make", "--blocks", "16 "], Status::Words),
-        (
-            &["make", "--blocks", "000000000000000000016"],
-            Status::Words,
-        ),
-        (&["make", "--blocks", "16", "--slack"], Status::Words),
-        (&["make", "--blocks", "16", "--slack", "63"], Status::Words),
-        (
-            &["make", "--blocks", "16", "--slack", "1025"],
-            Status::Words,
-        ),
-        (&["make", "--blocks", "16", "--blocks", "16"], Status::Words),
-        (&["make", "--slack", "64", "--blocks", "16"], Status::Words),
-        (&["make", "16"], Status::Words),
-        (&["run", "--blocks", "16"], Status::Words),
-    ] {
-        let (told, image) = make(alloc, words, 0, &[])?;
-        assert_eq!(rt; told.status, status, "at {words:?}");
-        assert!(rt; told.out.bytes().is_empty());
-        let line = if status == Status::Image {
-            "nesc: image size 0\n"
-        } else {
-            "nesc: words\n"
-        };
-        assert_eq!(rt; told.err.bytes(), line.as_bytes());
-        assert_eq!(rt; image.clock(), 0);
-    }
-    Ok(())
 }

@@ -1,9 +1,9 @@
 -- What a whole call says of a disk, from what each of its calls of the disk says.
-use Rattle.std.proofs.Common.{◌≡◌, ◌⊎◌, ⊎_elim, inl, inr, ℕ, ◌<◌, ◌≤◌, List, refl, ◌∙◌, arith}
+use Rattle.std.proofs.Common.{◌≡◌, ⊎_elim, ℕ, ◌<◌, ◌≤◌, List, refl, ◌∙◌, arith}
 use Rattle.std.specs.Prelude.{true}
 use Rattle.std.proofs.lemmas.Bool.{cases_lt}
 use Rattle.nesc_base.specs.declared.block.Block.{Block}
-use Rattle.nesc_base.specs.Disk.{Adds, Goes, Known, Leaves, LeftSince, Unchanged}
+use Rattle.nesc_base.specs.Disk.{Adds, Goes, Known, Leaves, Unchanged}
 
 pub goes_itself : (disk : Known) → Goes disk disk
 goes_itself disk = record {
@@ -56,10 +56,3 @@ pub leaves_on : (P : ℕ → List Block → Type 0) (a b c : Known) → Goes a b
 leaves_on P a b c first early second late tells k image since left before =
     ⊎_elim (λ (after : b.clock < k). late (first.still_tells ∙ tells) k image after left before)
     (λ by_then. early tells k image since ((second.over (first.still_tells ∙ tells) k image (omega (arith, by_then)) before).0 left) before) (cases_lt b.clock k)
-
--- what is left since a clock value was left since it before, or came with the call
-pub left_since : (P : ℕ → List Block → Type 0) (a b : Known) (since : ℕ) (image : List Block) → a.tells ≡ true → Goes a b → Leaves P a b → LeftSince since b image
-    → LeftSince since a image ⊎ ((k : ℕ) × P k image)
-left_since P a b since image tells goes leaves some =
-    ⊎_elim (λ (after : a.clock < some.clock). inr (some.clock, leaves tells some.clock image after some.left some.before))
-    (λ by_then. inl (record { clock = some.clock; from = some.from; before = some.before; left = (goes.over tells some.clock image (omega (arith, by_then)) some.before).0 some.left })) (cases_lt a.clock some.clock)

@@ -1,1 +1,3 @@
 pub mod DiskCalls
+pub mod Maps
+pub mod Numbered

@@ -47,10 +47,3 @@ Adds P old new = old.tells ≡ true → (k : ℕ) (image : List Block) → old.c
 -- so it is over any number of calls, at the clock values at which the clock does not stand still
 abbrev pub Leaves : (ℕ → List Block → Type 0) → Known → Known → Type 0
 Leaves P old new = Adds (λ k image. k < last → P k image) old new
-
--- a stop at this clock value or a later one, none at which the clock stands still, could leave this image
-pub record LeftSince (since : ℕ) (disk : Known) (image : List Block) : Type 0 where
-  pub clock : ℕ
-  pub from : since ≤ clock
-  pub before : clock < last
-  pub left : disk.left clock image

@@ -6,6 +6,7 @@ pub mod Files
 pub mod Geometry
 pub mod Name
 pub mod NameFields
+pub mod Numbered
 pub mod Requests
 pub mod Script
 pub mod Sink

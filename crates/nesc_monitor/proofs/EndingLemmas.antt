@@ -1,18 +1,23 @@
 -- What an ending says, put together from what the parts say.
-use Rattle.std.proofs.Common.{◌≡◌, ◌⊎◌, ⊎_elim, ◌↔◌, ◌<◌, ◌≤◌, List, ℕ, Option, Some, None, sym, ◌∙◌, ap, refl, subst, arith}
+use Rattle.std.proofs.Common.{◌≡◌, ◌⊎◌, ⊎_elim, ◌↔◌, ◌<◌, ◌≤◌, true, List, ℕ, Option, Some, None, sym, ◌∙◌, ap, refl, subst, arith}
 use Rattle.std.proofs.lemmas.Option.{none-some}
 use Rattle.nesc_base.specs.declared.geometry.Geometry.{Geometry}
 use Rattle.nesc_base.specs.Disk.{Known}
 use Rattle.nesc_base.specs.Fault.{Rose}
+use Rattle.nesc_base.specs.Files.{Files}
 use Rattle.nesc_base.specs.Geometry.{total}
 use Rattle.nesc_base.specs.Script.{Script}
 use Rattle.nesc_base.specs.Sink.{Appends}
 use Rattle.nesc_base.specs.declared.word.Word.{Word}
 use Rattle.file_model.specs.Lines.{trace_text}
 use Rattle.file_model.specs.State.{start}
+use Rattle.image_layout.specs.declared.fault.ImageFault.{ImageFault}
 use Rattle.image_layout.specs.declared.fault.ImageFault.TheVariants.{BadSuper, BadSize, BadList, BadTable, BadOwner, TwiceOwned}
 use Rattle.script_lang.specs.Limits.{most_queued}
-use Rattle.nesc_monitor.specs.Endings.{AreAccepted, AreKnownAccepted, AreKnownRefused, Comes, IsCarriedOut, IsCommandsRefused, IsEarly, IsScheduleRefused, IsTurnedDown, IsOfSteps, IsReadOut, IsTurnedAway, Runs, WritesFront, WritesTrace, status_of}
+use Rattle.image_opening.specs.Parts.{IsTurnedDown}
+use Rattle.image_opening.proofs.PartsLemmas.{opens_or_is_turned_down}
+use Rattle.nesc_monitor.specs.Endings.{AreAccepted, AreKnownAccepted, AreKnownRefused, AreTaken, Comes, IsCarriedOut, IsCommandsRefused, IsEarly, IsImageRefused, IsInputRefused, IsKnownTurnedDown, IsReadOut, IsScheduleRefused, IsTurnedAway, OpensKnown, Runs, WritesFront, WritesTrace, status_of}
+use Rattle.nesc_monitor.specs.Starting.{IsOpened, StartsAndTells, StartsFrom}
 use Rattle.nesc_monitor.specs.Making.{IsMade, Makes, made_text}
 use Rattle.nesc_monitor.specs.Steps.{TellsAll, TellsFront}
 use Rattle.nesc_monitor.specs.Texts.{IsTold}
@@ -23,35 +28,115 @@ use Rattle.nesc_monitor.specs.declared.ending.Status.TheVariants as status
 use Rattle.nesc_monitor.specs.declared.words.Command.{Command}
 use Rattle.nesc_monitor.specs.declared.words.Command.TheVariants.{Run, Make}
 
+-- The endings of a status
+
+ending_done : (ending : Ending) → status_of ending ≡ status.Done → ending ≡ Done
+ending_done Done is = refl
+ending_done Words is = cc
+ending_done Memory is = cc
+ending_done Commands is = cc
+ending_done Schedule is = cc
+ending_done (Image fault) is = cc
+ending_done Device is = cc
+ending_done Read is = cc
+ending_done Write is = cc
+
+ending_words : (ending : Ending) → status_of ending ≡ status.Words → ending ≡ Words
+ending_words Done is = cc
+ending_words Words is = refl
+ending_words Memory is = cc
+ending_words Commands is = cc
+ending_words Schedule is = cc
+ending_words (Image fault) is = cc
+ending_words Device is = cc
+ending_words Read is = cc
+ending_words Write is = cc
+
+ending_device : (ending : Ending) → status_of ending ≡ status.Device → ending ≡ Device
+ending_device Done is = cc
+ending_device Words is = cc
+ending_device Memory is = cc
+ending_device Commands is = cc
+ending_device Schedule is = cc
+ending_device (Image fault) is = cc
+ending_device Device is = refl
+ending_device Read is = cc
+ending_device Write is = cc
+
+ending_read : (ending : Ending) → status_of ending ≡ status.Read → ending ≡ Read
+ending_read Done is = cc
+ending_read Words is = cc
+ending_read Memory is = cc
+ending_read Commands is = cc
+ending_read Schedule is = cc
+ending_read (Image fault) is = cc
+ending_read Device is = cc
+ending_read Read is = refl
+ending_read Write is = cc
+
+ending_write : (ending : Ending) → status_of ending ≡ status.Write → ending ≡ Write
+ending_write Done is = cc
+ending_write Words is = cc
+ending_write Memory is = cc
+ending_write Commands is = cc
+ending_write Schedule is = cc
+ending_write (Image fault) is = cc
+ending_write Device is = cc
+ending_write Read is = cc
+ending_write Write is = refl
+
+ending_image : (ending : Ending) → status_of ending ≡ status.Image → (fault : ImageFault) × (ending ≡ Image fault)
+ending_image Done is = cc
+ending_image Words is = cc
+ending_image Memory is = cc
+ending_image Commands is = cc
+ending_image Schedule is = cc
+ending_image (Image fault) is = (fault, refl)
+ending_image Device is = cc
+ending_image Read is = cc
+ending_image Write is = cc
+
 -- The command `run`
 
--- no step was taken
-pub Runs-turned_away : (ending : Ending) (commands schedule out : Watched) → IsTurnedAway ending commands schedule → out.after ≡ out.before → Runs ending commands schedule out
-Runs-turned_away Done commands schedule out away same = absurd away
-Runs-turned_away Words commands schedule out away same = (away, same)
-Runs-turned_away Memory commands schedule out away same = (away, same)
-Runs-turned_away Commands commands schedule out away same = (away, same)
-Runs-turned_away Schedule commands schedule out away same = (away, same)
-Runs-turned_away (Image fault) commands schedule out away same = (away, same)
-Runs-turned_away Device commands schedule out away same = (away, same)
-Runs-turned_away Read commands schedule out away same = (away, same)
-Runs-turned_away Write commands schedule out away same = absurd away
+-- the image was not looked at
+pub Runs-turned_away : (ending : Ending) (commands schedule : Watched) (old new : Known) (out : Watched) → IsTurnedAway ending commands schedule → new.faults ≡ old.faults → out.after ≡ out.before
+    → Runs ending commands schedule old new out
+Runs-turned_away Done commands schedule old new out away unasked same = absurd away
+Runs-turned_away Words commands schedule old new out away unasked same = (away, unasked, same)
+Runs-turned_away Memory commands schedule old new out away unasked same = same
+Runs-turned_away Commands commands schedule old new out away unasked same = (away, unasked, same)
+Runs-turned_away Schedule commands schedule old new out away unasked same = (away, unasked, same)
+Runs-turned_away (Image fault) commands schedule old new out away unasked same = absurd away
+Runs-turned_away Device commands schedule old new out away unasked same = absurd away
+Runs-turned_away Read commands schedule old new out away unasked same = (away, unasked, same)
+Runs-turned_away Write commands schedule old new out away unasked same = absurd away
 
--- the trace of the steps is that of a run over the texts
-all_of : (commands schedule before after : Option (List ℕ)) (script : Script) (words : List Word) → IsTold commands schedule script words → TellsAll (start most_queued script) words before after → WritesTrace commands schedule before after
-all_of None schedule before after script words told tells = tt
-all_of (Some commands) None before after script words told tells = tt
-all_of (Some commands) (Some schedule) None after script words told tells = tt
-all_of (Some commands) (Some schedule) (Some before) after script words told tells =
-    (trace_text tells.groups, record { script = script; words = words; read_commands = told.0; read_schedule = told.1; groups = tells.groups; end = tells.end; run = tells.run; text = refl }, tells.all)
+module _ (image : Known) (files : Files) (starts : StartsFrom image files) where
+  -- the trace of the steps is that of a run over the texts
+  all_of : (commands schedule before after : Option (List ℕ)) (script : Script) (words : List Word) → IsTold commands schedule script words → TellsAll (start files most_queued script) words before after
+      → WritesTrace image commands schedule before after
+  all_of None schedule before after script words told tells = tt
+  all_of (Some commands) None before after script words told tells = tt
+  all_of (Some commands) (Some schedule) None after script words told tells = tt
+  all_of (Some commands) (Some schedule) (Some before) after script words told tells = (
+    trace_text tells.groups,
+    record { files = files; starts = starts; script = script; words = words; read_commands = told.0; read_schedule = told.1; groups = tells.groups; end = tells.end; run = tells.run; text = refl },
+    tells.all,
+  )
 
-front_of : (commands schedule before after : Option (List ℕ)) (script : Script) (words : List Word) → IsTold commands schedule script words → TellsFront (start most_queued script) words before after → WritesFront commands schedule before after
-front_of None schedule before after script words told tells = tt
-front_of (Some commands) None before after script words told tells = tt
-front_of (Some commands) (Some schedule) None after script words told tells = tt
-front_of (Some commands) (Some schedule) (Some before) after script words told tells =
-    let first = tells.first in
-    (trace_text tells.groups, record { script = script; words = words; read_commands = told.0; read_schedule = told.1; groups = tells.groups; end = tells.end; run = tells.run; text = refl }, first.0, first.1, first.2)
+  front_of : (commands schedule before after : Option (List ℕ)) (script : Script) (words : List Word) → IsTold commands schedule script words → TellsFront (start files most_queued script) words before after
+      → WritesFront image commands schedule before after
+  front_of None schedule before after script words told tells = tt
+  front_of (Some commands) None before after script words told tells = tt
+  front_of (Some commands) (Some schedule) None after script words told tells = tt
+  front_of (Some commands) (Some schedule) (Some before) after script words told tells =
+      let first = tells.first in (
+        trace_text tells.groups,
+        record { files = files; starts = starts; script = script; words = words; read_commands = told.0; read_schedule = told.1; groups = tells.groups; end = tells.end; run = tells.run; text = refl },
+        first.0,
+        first.1,
+        first.2,
+      )
 
 -- the texts of the steps were accepted
 accepted_of : (commands schedule : Option (List ℕ)) (script : Script) (words : List Word) → IsTold commands schedule script words → AreAccepted commands schedule
@@ -59,32 +144,24 @@ accepted_of None schedule script words told = tt
 accepted_of (Some commands) None script words told = tt
 accepted_of (Some commands) (Some schedule) script words told = ((script, told.0), (words, told.1))
 
--- the steps were taken, to their end or up to a line that was cut short, or there was no memory for them
-pub Runs-steps : (ending : Ending) (commands schedule out : Watched) (script : Script) (words : List Word) → IsOfSteps ending → IsTold commands.before schedule.before script words
-    → IsReadOut commands.before commands.after → IsReadOut schedule.before schedule.after → (ending ≡ Done → TellsAll (start most_queued script) words out.before out.after) → (ending ≡ Write → TellsFront (start most_queued script) words out.before out.after)
-    → (ending ≡ Memory → out.after ≡ out.before) → (ending ≡ Write → HasFailed out) → Runs ending commands schedule out
-Runs-steps Done commands schedule out script words of told one two all front memory failed =
-    (accepted_of commands.before schedule.before script words told, all_of commands.before schedule.before out.before out.after script words told (all refl), one, two)
-Runs-steps Words commands schedule out script words of told one two all front memory failed = absurd of
-Runs-steps Memory commands schedule out script words of told one two all front memory failed = (tt, memory refl)
-Runs-steps Commands commands schedule out script words of told one two all front memory failed = absurd of
-Runs-steps Schedule commands schedule out script words of told one two all front memory failed = absurd of
-Runs-steps (Image fault) commands schedule out script words of told one two all front memory failed = absurd of
-Runs-steps Device commands schedule out script words of told one two all front memory failed = absurd of
-Runs-steps Read commands schedule out script words of told one two all front memory failed = absurd of
-Runs-steps Write commands schedule out script words of told one two all front memory failed =
-    (accepted_of commands.before schedule.before script words told, failed refl, front_of commands.before schedule.before out.before out.after script words told (front refl))
+-- both texts were accepted, and then the image was opened and the steps were taken, as far as that went
+pub Runs-steps : (ending : Ending) (commands schedule : Watched) (old new : Known) (out : Watched) (script : Script) (words : List Word) → IsTold commands.before schedule.before script words
+    → IsReadOut commands.before commands.after → IsReadOut schedule.before schedule.after → StartsAndTells ending old new script words out → Runs ending commands schedule old new out
+Runs-steps ending commands schedule old new out script words told one two steps = by_ending ending steps
+  where
+    taken : AreTaken commands schedule
+    taken = record { accepted = accepted_of commands.before schedule.before script words told; no_commands = one; no_schedule = two }
 
-runs_done : (ending : Ending) (commands schedule out : Watched) → Runs ending commands schedule out → status_of ending ≡ status.Done → WritesTrace commands.before schedule.before out.before out.after
-runs_done Done commands schedule out runs is = runs.1
-runs_done Words commands schedule out runs is = cc
-runs_done Memory commands schedule out runs is = cc
-runs_done Commands commands schedule out runs is = cc
-runs_done Schedule commands schedule out runs is = cc
-runs_done (Image fault) commands schedule out runs is = cc
-runs_done Device commands schedule out runs is = cc
-runs_done Read commands schedule out runs is = cc
-runs_done Write commands schedule out runs is = cc
+    by_ending : (ending : Ending) → StartsAndTells ending old new script words out → Runs ending commands schedule old new out
+    by_ending Done steps = (taken, (steps.0, steps.1), all_of old steps.0 steps.1 commands.before schedule.before out.before out.after script words told steps.2)
+    by_ending Words steps = absurd steps
+    by_ending Memory steps = steps
+    by_ending Commands steps = absurd steps
+    by_ending Schedule steps = absurd steps
+    by_ending (Image fault) steps = (taken, steps.0, steps.1)
+    by_ending Device steps = (taken, steps.0, steps.1)
+    by_ending Read steps = absurd steps
+    by_ending Write steps = (taken, (steps.0, steps.1), steps.2, front_of old steps.0 steps.1 commands.before schedule.before out.before out.after script words told steps.3)
 
 -- Texts that are accepted, and refused
 
@@ -103,103 +180,58 @@ texts_clash None schedule accepted refused = refused
 texts_clash (Some commands) None accepted refused = refused
 texts_clash (Some commands) (Some schedule) accepted refused = ⊎_elim (λ never. never accepted.0.0 accepted.0.1) (λ none. none-some _ (sym none ∙ accepted.1.1)) refused
 
-runs_complete : (ending : Ending) (commands schedule out : Watched) → Runs ending commands schedule out → AreKnownAccepted commands.before schedule.before
-    → ¬ HasFailed commands → ¬ HasFailed schedule → ¬ HasFailed out → IsCarriedOut (status_of ending) out.before out.after
-runs_complete Done commands schedule out runs accepted one two three = tt
-runs_complete Words commands schedule out runs accepted one two three = absurd runs.0
-runs_complete Memory commands schedule out runs accepted one two three = runs.1
-runs_complete Commands commands schedule out runs accepted one two three = absurd (commands_clash commands.before schedule.before accepted runs.0)
-runs_complete Schedule commands schedule out runs accepted one two three = absurd (schedule_clash commands.before schedule.before accepted runs.0)
-runs_complete (Image fault) commands schedule out runs accepted one two three = absurd runs.0
-runs_complete Device commands schedule out runs accepted one two three = absurd runs.0
-runs_complete Read commands schedule out runs accepted one two three = absurd (⊎_elim one two runs.0)
-runs_complete Write commands schedule out runs accepted one two three = absurd (three runs.1)
+runs_complete : (ending : Ending) (commands schedule : Watched) (old new : Known) (out : Watched) → Runs ending commands schedule old new out → AreKnownAccepted commands.before schedule.before → OpensKnown old
+    → ¬ HasFailed commands → ¬ HasFailed schedule → ¬ Rose old.faults new.faults → ¬ HasFailed out → IsCarriedOut (status_of ending) out.before out.after
+runs_complete Done commands schedule old new out runs accepted opens one two three four = tt
+runs_complete Words commands schedule old new out runs accepted opens one two three four = absurd runs.0
+runs_complete Memory commands schedule old new out runs accepted opens one two three four = runs
+runs_complete Commands commands schedule old new out runs accepted opens one two three four = absurd (commands_clash commands.before schedule.before accepted runs.0)
+runs_complete Schedule commands schedule old new out runs accepted opens one two three four = absurd (schedule_clash commands.before schedule.before accepted runs.0)
+runs_complete (Image fault) commands schedule old new out runs accepted opens one two three four = absurd (opens_or_is_turned_down old.contents opens.1 fault opens.2 (runs.1 opens.0))
+runs_complete Device commands schedule old new out runs accepted opens one two three four = absurd (three runs.1)
+runs_complete Read commands schedule old new out runs accepted opens one two three four = absurd (⊎_elim one two runs.0)
+runs_complete Write commands schedule old new out runs accepted opens one two three four = absurd (four runs.2)
 
-runs_refused : (ending : Ending) (commands schedule out : Watched) → Runs ending commands schedule out → AreKnownRefused commands.before schedule.before
-    → ¬ HasFailed commands → ¬ HasFailed schedule → IsTurnedDown (status_of ending)
-runs_refused Done commands schedule out runs texts one two = absurd (texts_clash commands.before schedule.before runs.0 texts)
-runs_refused Words commands schedule out runs texts one two = absurd runs.0
-runs_refused Memory commands schedule out runs texts one two = tt
-runs_refused Commands commands schedule out runs texts one two = tt
-runs_refused Schedule commands schedule out runs texts one two = tt
-runs_refused (Image fault) commands schedule out runs texts one two = absurd runs.0
-runs_refused Device commands schedule out runs texts one two = absurd runs.0
-runs_refused Read commands schedule out runs texts one two = absurd (⊎_elim one two runs.0)
-runs_refused Write commands schedule out runs texts one two = absurd (texts_clash commands.before schedule.before runs.0 texts)
+-- an image that is turned down was not opened
+image_clash : (old : Known) → IsOpened old → IsKnownTurnedDown old → ⊥
+image_clash old opened down = opens_or_is_turned_down old.contents opened.0 down.1 (opened.1.opens down.0) down.2
 
-runs_early : (ending : Ending) (commands schedule out : Watched) → Runs ending commands schedule out → IsEarly (status_of ending) → out.after ≡ out.before
-runs_early Done commands schedule out runs early = absurd early
-runs_early Words commands schedule out runs early = runs.1
-runs_early Memory commands schedule out runs early = runs.1
-runs_early Commands commands schedule out runs early = runs.1
-runs_early Schedule commands schedule out runs early = runs.1
-runs_early (Image fault) commands schedule out runs early = runs.1
-runs_early Device commands schedule out runs early = runs.1
-runs_early Read commands schedule out runs early = runs.1
-runs_early Write commands schedule out runs early = absurd early
+runs_image_refused : (ending : Ending) (commands schedule : Watched) (old new : Known) (out : Watched) → Runs ending commands schedule old new out → AreKnownAccepted commands.before schedule.before → IsKnownTurnedDown old
+    → ¬ HasFailed commands → ¬ HasFailed schedule → ¬ Rose old.faults new.faults → IsImageRefused (status_of ending)
+runs_image_refused Done commands schedule old new out runs accepted down one two three = absurd (image_clash old runs.1 down)
+runs_image_refused Words commands schedule old new out runs accepted down one two three = absurd runs.0
+runs_image_refused Memory commands schedule old new out runs accepted down one two three = tt
+runs_image_refused Commands commands schedule old new out runs accepted down one two three = absurd (commands_clash commands.before schedule.before accepted runs.0)
+runs_image_refused Schedule commands schedule old new out runs accepted down one two three = absurd (schedule_clash commands.before schedule.before accepted runs.0)
+runs_image_refused (Image fault) commands schedule old new out runs accepted down one two three = tt
+runs_image_refused Device commands schedule old new out runs accepted down one two three = absurd (three runs.1)
+runs_image_refused Read commands schedule old new out runs accepted down one two three = absurd (⊎_elim one two runs.0)
+runs_image_refused Write commands schedule old new out runs accepted down one two three = absurd (image_clash old runs.1 down)
 
-runs_read : (ending : Ending) (commands schedule out : Watched) → Runs ending commands schedule out → status_of ending ≡ status.Read → HasFailed commands ⊎ HasFailed schedule
-runs_read Done commands schedule out runs is = cc
-runs_read Words commands schedule out runs is = cc
-runs_read Memory commands schedule out runs is = cc
-runs_read Commands commands schedule out runs is = cc
-runs_read Schedule commands schedule out runs is = cc
-runs_read (Image fault) commands schedule out runs is = cc
-runs_read Device commands schedule out runs is = cc
-runs_read Read commands schedule out runs is = runs.0
-runs_read Write commands schedule out runs is = cc
+runs_refused : (ending : Ending) (commands schedule : Watched) (old new : Known) (out : Watched) → Runs ending commands schedule old new out → AreKnownRefused commands.before schedule.before
+    → ¬ HasFailed commands → ¬ HasFailed schedule → IsInputRefused (status_of ending)
+runs_refused Done commands schedule old new out runs texts one two = absurd (texts_clash commands.before schedule.before runs.0.accepted texts)
+runs_refused Words commands schedule old new out runs texts one two = absurd runs.0
+runs_refused Memory commands schedule old new out runs texts one two = tt
+runs_refused Commands commands schedule old new out runs texts one two = tt
+runs_refused Schedule commands schedule old new out runs texts one two = tt
+runs_refused (Image fault) commands schedule old new out runs texts one two = absurd (texts_clash commands.before schedule.before runs.0.accepted texts)
+runs_refused Device commands schedule old new out runs texts one two = absurd (texts_clash commands.before schedule.before runs.0.accepted texts)
+runs_refused Read commands schedule old new out runs texts one two = absurd (⊎_elim one two runs.0)
+runs_refused Write commands schedule old new out runs texts one two = absurd (texts_clash commands.before schedule.before runs.0.accepted texts)
 
-runs_write : (ending : Ending) (commands schedule out : Watched) → Runs ending commands schedule out → status_of ending ≡ status.Write → HasFailed out
-runs_write Done commands schedule out runs is = cc
-runs_write Words commands schedule out runs is = cc
-runs_write Memory commands schedule out runs is = cc
-runs_write Commands commands schedule out runs is = cc
-runs_write Schedule commands schedule out runs is = cc
-runs_write (Image fault) commands schedule out runs is = cc
-runs_write Device commands schedule out runs is = cc
-runs_write Read commands schedule out runs is = cc
-runs_write Write commands schedule out runs is = runs.1
-
--- it has neither the ending of refused words nor one of an image
-runs_words : (ending : Ending) (commands schedule out : Watched) → Runs ending commands schedule out → status_of ending ≡ status.Words → ⊥
-runs_words Done commands schedule out runs is = cc
-runs_words Words commands schedule out runs is = runs.0
-runs_words Memory commands schedule out runs is = cc
-runs_words Commands commands schedule out runs is = cc
-runs_words Schedule commands schedule out runs is = cc
-runs_words (Image fault) commands schedule out runs is = cc
-runs_words Device commands schedule out runs is = cc
-runs_words Read commands schedule out runs is = cc
-runs_words Write commands schedule out runs is = cc
-
-runs_device : (ending : Ending) (commands schedule out : Watched) → Runs ending commands schedule out → status_of ending ≡ status.Device → ⊥
-runs_device Done commands schedule out runs is = cc
-runs_device Words commands schedule out runs is = cc
-runs_device Memory commands schedule out runs is = cc
-runs_device Commands commands schedule out runs is = cc
-runs_device Schedule commands schedule out runs is = cc
-runs_device (Image fault) commands schedule out runs is = cc
-runs_device Device commands schedule out runs is = runs.0
-runs_device Read commands schedule out runs is = cc
-runs_device Write commands schedule out runs is = cc
+runs_early : (ending : Ending) (commands schedule : Watched) (old new : Known) (out : Watched) → Runs ending commands schedule old new out → IsEarly (status_of ending) → out.after ≡ out.before
+runs_early Done commands schedule old new out runs early = absurd early
+runs_early Words commands schedule old new out runs early = runs.2
+runs_early Memory commands schedule old new out runs early = runs
+runs_early Commands commands schedule old new out runs early = runs.2
+runs_early Schedule commands schedule old new out runs early = runs.2
+runs_early (Image fault) commands schedule old new out runs early = runs.2
+runs_early Device commands schedule old new out runs early = runs.2
+runs_early Read commands schedule old new out runs early = runs.2
+runs_early Write commands schedule old new out runs early = absurd early
 
 -- The command `make`
-
-makes_done : (ending : Ending) (geometry : Geometry) (old new : Known) (out : Watched) → Makes ending geometry old new out → status_of ending ≡ status.Done → IsMade geometry old new × Appends out.before out.after (made_text geometry)
-makes_done Done geometry old new out makes is = makes
-makes_done Words geometry old new out makes is = absurd makes
-makes_done Memory geometry old new out makes is = absurd makes
-makes_done Commands geometry old new out makes is = absurd makes
-makes_done Schedule geometry old new out makes is = absurd makes
-makes_done (Image (BadSuper block)) geometry old new out makes is = absurd makes
-makes_done (Image (BadSize block)) geometry old new out makes is = cc
-makes_done (Image (BadList block)) geometry old new out makes is = absurd makes
-makes_done (Image (BadTable block)) geometry old new out makes is = absurd makes
-makes_done (Image (BadOwner block)) geometry old new out makes is = absurd makes
-makes_done (Image (TwiceOwned file v)) geometry old new out makes is = absurd makes
-makes_done Device geometry old new out makes is = cc
-makes_done Read geometry old new out makes is = absurd makes
-makes_done Write geometry old new out makes is = cc
 
 makes_complete : (ending : Ending) (geometry : Geometry) (old new : Known) (out : Watched) → Makes ending geometry old new out → total geometry ≤ old.size → ¬ Rose old.faults new.faults → ¬ HasFailed out → status_of ending ≡ status.Done
 makes_complete Done geometry old new out makes enough one two = refl
@@ -217,22 +249,6 @@ makes_complete Device geometry old new out makes enough one two = absurd (one ma
 makes_complete Read geometry old new out makes enough one two = absurd makes
 makes_complete Write geometry old new out makes enough one two = absurd (two makes.1)
 
-makes_small : (ending : Ending) (geometry : Geometry) (old new : Known) (out : Watched) → Makes ending geometry old new out → status_of ending ≡ status.Image → old.size < total geometry
-makes_small Done geometry old new out makes is = cc
-makes_small Words geometry old new out makes is = absurd makes
-makes_small Memory geometry old new out makes is = absurd makes
-makes_small Commands geometry old new out makes is = absurd makes
-makes_small Schedule geometry old new out makes is = absurd makes
-makes_small (Image (BadSuper block)) geometry old new out makes is = absurd makes
-makes_small (Image (BadSize block)) geometry old new out makes is = makes.0
-makes_small (Image (BadList block)) geometry old new out makes is = absurd makes
-makes_small (Image (BadTable block)) geometry old new out makes is = absurd makes
-makes_small (Image (BadOwner block)) geometry old new out makes is = absurd makes
-makes_small (Image (TwiceOwned file v)) geometry old new out makes is = absurd makes
-makes_small Device geometry old new out makes is = cc
-makes_small Read geometry old new out makes is = absurd makes
-makes_small Write geometry old new out makes is = cc
-
 makes_early : (ending : Ending) (geometry : Geometry) (old new : Known) (out : Watched) → Makes ending geometry old new out → IsEarly (status_of ending) → out.after ≡ out.before
 makes_early Done geometry old new out makes early = absurd early
 makes_early Words geometry old new out makes early = absurd makes
@@ -249,70 +265,6 @@ makes_early Device geometry old new out makes early = makes.2
 makes_early Read geometry old new out makes early = absurd makes
 makes_early Write geometry old new out makes early = absurd early
 
-makes_device : (ending : Ending) (geometry : Geometry) (old new : Known) (out : Watched) → Makes ending geometry old new out → status_of ending ≡ status.Device → Rose old.faults new.faults
-makes_device Done geometry old new out makes is = cc
-makes_device Words geometry old new out makes is = absurd makes
-makes_device Memory geometry old new out makes is = absurd makes
-makes_device Commands geometry old new out makes is = absurd makes
-makes_device Schedule geometry old new out makes is = absurd makes
-makes_device (Image (BadSuper block)) geometry old new out makes is = absurd makes
-makes_device (Image (BadSize block)) geometry old new out makes is = cc
-makes_device (Image (BadList block)) geometry old new out makes is = absurd makes
-makes_device (Image (BadTable block)) geometry old new out makes is = absurd makes
-makes_device (Image (BadOwner block)) geometry old new out makes is = absurd makes
-makes_device (Image (TwiceOwned file v)) geometry old new out makes is = absurd makes
-makes_device Device geometry old new out makes is = makes.1
-makes_device Read geometry old new out makes is = absurd makes
-makes_device Write geometry old new out makes is = cc
-
-makes_write : (ending : Ending) (geometry : Geometry) (old new : Known) (out : Watched) → Makes ending geometry old new out → status_of ending ≡ status.Write → HasFailed out
-makes_write Done geometry old new out makes is = cc
-makes_write Words geometry old new out makes is = absurd makes
-makes_write Memory geometry old new out makes is = absurd makes
-makes_write Commands geometry old new out makes is = absurd makes
-makes_write Schedule geometry old new out makes is = absurd makes
-makes_write (Image (BadSuper block)) geometry old new out makes is = absurd makes
-makes_write (Image (BadSize block)) geometry old new out makes is = cc
-makes_write (Image (BadList block)) geometry old new out makes is = absurd makes
-makes_write (Image (BadTable block)) geometry old new out makes is = absurd makes
-makes_write (Image (BadOwner block)) geometry old new out makes is = absurd makes
-makes_write (Image (TwiceOwned file v)) geometry old new out makes is = absurd makes
-makes_write Device geometry old new out makes is = cc
-makes_write Read geometry old new out makes is = absurd makes
-makes_write Write geometry old new out makes is = makes.1
-
-makes_words : (ending : Ending) (geometry : Geometry) (old new : Known) (out : Watched) → Makes ending geometry old new out → status_of ending ≡ status.Words → ⊥
-makes_words Done geometry old new out makes is = cc
-makes_words Words geometry old new out makes is = absurd makes
-makes_words Memory geometry old new out makes is = absurd makes
-makes_words Commands geometry old new out makes is = absurd makes
-makes_words Schedule geometry old new out makes is = absurd makes
-makes_words (Image (BadSuper block)) geometry old new out makes is = absurd makes
-makes_words (Image (BadSize block)) geometry old new out makes is = cc
-makes_words (Image (BadList block)) geometry old new out makes is = absurd makes
-makes_words (Image (BadTable block)) geometry old new out makes is = absurd makes
-makes_words (Image (BadOwner block)) geometry old new out makes is = absurd makes
-makes_words (Image (TwiceOwned file v)) geometry old new out makes is = absurd makes
-makes_words Device geometry old new out makes is = cc
-makes_words Read geometry old new out makes is = absurd makes
-makes_words Write geometry old new out makes is = cc
-
-makes_read : (ending : Ending) (geometry : Geometry) (old new : Known) (out : Watched) → Makes ending geometry old new out → status_of ending ≡ status.Read → ⊥
-makes_read Done geometry old new out makes is = cc
-makes_read Words geometry old new out makes is = absurd makes
-makes_read Memory geometry old new out makes is = absurd makes
-makes_read Commands geometry old new out makes is = absurd makes
-makes_read Schedule geometry old new out makes is = absurd makes
-makes_read (Image (BadSuper block)) geometry old new out makes is = absurd makes
-makes_read (Image (BadSize block)) geometry old new out makes is = cc
-makes_read (Image (BadList block)) geometry old new out makes is = absurd makes
-makes_read (Image (BadTable block)) geometry old new out makes is = absurd makes
-makes_read (Image (BadOwner block)) geometry old new out makes is = absurd makes
-makes_read (Image (TwiceOwned file v)) geometry old new out makes is = absurd makes
-makes_read Device geometry old new out makes is = cc
-makes_read Read geometry old new out makes is = absurd makes
-makes_read Write geometry old new out makes is = cc
-
 -- a disk that is too small is told of
 makes_of_small : (ending : Ending) (geometry : Geometry) (old new : Known) (out : Watched) → Makes ending geometry old new out → old.size < total geometry → status_of ending ≡ status.Image
 makes_of_small Done geometry old new out makes small = absurd (omega (arith, small, makes.0.enough))
@@ -325,32 +277,57 @@ makes_of_small Device geometry old new out makes small = absurd (omega (arith, s
 makes_of_small Read geometry old new out makes small = absurd makes
 makes_of_small Write geometry old new out makes small = absurd (omega (arith, small, makes.0.enough))
 
+-- an image is refused where the disk is too small for it
+of_small : (old new : Known) (out : Watched) (geometry : Geometry) (fault : ImageFault) → Makes (Image fault) geometry old new out → old.size < total geometry
+of_small old new out geometry (BadSuper block) makes = absurd makes
+of_small old new out geometry (BadSize block) makes = makes.0
+of_small old new out geometry (BadList block) makes = absurd makes
+of_small old new out geometry (BadTable block) makes = absurd makes
+of_small old new out geometry (BadOwner block) makes = absurd makes
+of_small old new out geometry (TwiceOwned file v) makes = absurd makes
+
 -- Whatever the command is
 
 module _ (ending : Ending) (commands schedule : Watched) (old new : Known) (out : Watched) where
   abbrev Said : Option Command → Type 0
   Said command = Comes ending command commands schedule old new out
 
-  runs_of : (command : Option Command) → Said command → command ≡ Some Run → Runs ending commands schedule out
+  -- what each ending says where the command is `run`, and where it is `make`
+  abbrev Ran : Ending → Type 0
+  Ran ending = Runs ending commands schedule old new out
+
+  abbrev Made : Geometry → Ending → Type 0
+  Made geometry ending = Makes ending geometry old new out
+
+  runs_of : (command : Option Command) → Said command → command ≡ Some Run → Runs ending commands schedule old new out
   runs_of command comes is = (subst Said is comes).0
 
   makes_of : (command : Option Command) (geometry : Geometry) → Said command → command ≡ Some (Make geometry) → Makes ending geometry old new out
   makes_of command geometry comes is = (subst Said is comes).2
 
-  pub Comes-done : (command : Option Command) → Said command → command ≡ Some Run → status_of ending ≡ status.Done → WritesTrace commands.before schedule.before out.before out.after
-  Comes-done command comes is done = runs_done ending commands schedule out (runs_of command comes is) done
+  pub Comes-done : (command : Option Command) → Said command → command ≡ Some Run → status_of ending ≡ status.Done → WritesTrace old commands.before schedule.before out.before out.after
+  Comes-done command comes is done = (subst Ran (ending_done ending done) (runs_of command comes is)).2
 
-  pub Comes-complete : (command : Option Command) → Said command → command ≡ Some Run → AreKnownAccepted commands.before schedule.before
-      → ¬ HasFailed commands → ¬ HasFailed schedule → ¬ HasFailed out → IsCarriedOut (status_of ending) out.before out.after
-  Comes-complete command comes is = runs_complete ending commands schedule out (runs_of command comes is)
+  pub Comes-complete : (command : Option Command) → Said command → command ≡ Some Run → AreKnownAccepted commands.before schedule.before → OpensKnown old
+      → ¬ HasFailed commands → ¬ HasFailed schedule → ¬ Rose old.faults new.faults → ¬ HasFailed out → IsCarriedOut (status_of ending) out.before out.after
+  Comes-complete command comes is = runs_complete ending commands schedule old new out (runs_of command comes is)
+
+  pub Comes-image_refused : (command : Option Command) → Said command → command ≡ Some Run → AreKnownAccepted commands.before schedule.before → IsKnownTurnedDown old
+      → ¬ HasFailed commands → ¬ HasFailed schedule → ¬ Rose old.faults new.faults → IsImageRefused (status_of ending)
+  Comes-image_refused command comes is = runs_image_refused ending commands schedule old new out (runs_of command comes is)
+
+  pub Comes-turned_down : (command : Option Command) → Said command → command ≡ Some Run → status_of ending ≡ status.Image → old.tells ≡ true → (fault : ImageFault) × IsTurnedDown old.contents fault
+  Comes-turned_down command comes is image tells =
+      let fault = ending_image ending image in
+      (fault.0, (subst Ran fault.1 (runs_of command comes is)).1 tells)
 
   pub Comes-refused : (command : Option Command) → Said command → command ≡ Some Run → AreKnownRefused commands.before schedule.before
-      → ¬ HasFailed commands → ¬ HasFailed schedule → IsTurnedDown (status_of ending)
-  Comes-refused command comes is = runs_refused ending commands schedule out (runs_of command comes is)
+      → ¬ HasFailed commands → ¬ HasFailed schedule → IsInputRefused (status_of ending)
+  Comes-refused command comes is = runs_refused ending commands schedule old new out (runs_of command comes is)
 
   pub Comes-made : (command : Option Command) → Said command → (geometry : Geometry) → command ≡ Some (Make geometry) → status_of ending ≡ status.Done
       → IsMade geometry old new × Appends out.before out.after (made_text geometry)
-  Comes-made command comes geometry is = makes_done ending geometry old new out (makes_of command geometry comes is)
+  Comes-made command comes geometry is done = subst (Made geometry) (ending_done ending done) (makes_of command geometry comes is)
 
   pub Comes-made_complete : (command : Option Command) → Said command → (geometry : Geometry) → command ≡ Some (Make geometry) → total geometry ≤ old.size
       → ¬ Rose old.faults new.faults → ¬ HasFailed out → status_of ending ≡ status.Done
@@ -359,29 +336,29 @@ module _ (ending : Ending) (commands schedule : Watched) (old new : Known) (out 
   pub Comes-small : (command : Option Command) → Said command → (geometry : Geometry) → command ≡ Some (Make geometry) → (status_of ending ≡ status.Image) ↔ (old.size < total geometry)
   Comes-small command comes geometry is =
       let makes = makes_of command geometry comes is in
-      (makes_small ending geometry old new out makes, makes_of_small ending geometry old new out makes)
+      ((λ image. let fault = ending_image ending image in of_small old new out geometry fault.0 (subst (Made geometry) fault.1 makes)), makes_of_small ending geometry old new out makes)
 
   pub Comes-words : (command : Option Command) → Said command → (status_of ending ≡ status.Words) ↔ (command ≡ None)
   Comes-words None comes = ((λ is. refl), (λ is. ap status_of comes.0))
-  Comes-words (Some Run) comes = ((λ is. absurd (runs_words ending commands schedule out comes.0 is)), (λ is. absurd (none-some _ (sym is))))
-  Comes-words (Some (Make geometry)) comes = ((λ is. absurd (makes_words ending geometry old new out comes.2 is)), (λ is. absurd (none-some _ (sym is))))
+  Comes-words (Some Run) comes = ((λ is. absurd (subst Ran (ending_words ending is) comes.0).0), (λ is. absurd (none-some _ (sym is))))
+  Comes-words (Some (Make geometry)) comes = ((λ is. absurd (subst (Made geometry) (ending_words ending is) comes.2)), (λ is. absurd (none-some _ (sym is))))
 
   pub Comes-early : (command : Option Command) → Said command → IsEarly (status_of ending) → out.after ≡ out.before
   Comes-early None comes early = comes.4.bytes
-  Comes-early (Some Run) comes early = runs_early ending commands schedule out comes.0 early
+  Comes-early (Some Run) comes early = runs_early ending commands schedule old new out comes.0 early
   Comes-early (Some (Make geometry)) comes early = makes_early ending geometry old new out comes.2 early
 
   pub Comes-device : (command : Option Command) → Said command → status_of ending ≡ status.Device → Rose old.faults new.faults
   Comes-device None comes is = absurd (let h = sym (ap status_of comes.0) ∙ is in cc)
-  Comes-device (Some Run) comes is = absurd (runs_device ending commands schedule out comes.0 is)
-  Comes-device (Some (Make geometry)) comes is = makes_device ending geometry old new out comes.2 is
+  Comes-device (Some Run) comes is = (subst Ran (ending_device ending is) comes.0).1
+  Comes-device (Some (Make geometry)) comes is = (subst (Made geometry) (ending_device ending is) comes.2).1
 
   pub Comes-read : (command : Option Command) → Said command → status_of ending ≡ status.Read → HasFailed commands ⊎ HasFailed schedule
   Comes-read None comes is = absurd (let h = sym (ap status_of comes.0) ∙ is in cc)
-  Comes-read (Some Run) comes is = runs_read ending commands schedule out comes.0 is
-  Comes-read (Some (Make geometry)) comes is = absurd (makes_read ending geometry old new out comes.2 is)
+  Comes-read (Some Run) comes is = (subst Ran (ending_read ending is) comes.0).0
+  Comes-read (Some (Make geometry)) comes is = absurd (subst (Made geometry) (ending_read ending is) comes.2)
 
   pub Comes-write : (command : Option Command) → Said command → status_of ending ≡ status.Write → HasFailed out
   Comes-write None comes is = absurd (let h = sym (ap status_of comes.0) ∙ is in cc)
-  Comes-write (Some Run) comes is = runs_write ending commands schedule out comes.0 is
-  Comes-write (Some (Make geometry)) comes is = makes_write ending geometry old new out comes.2 is
+  Comes-write (Some Run) comes is = (subst Ran (ending_write ending is) comes.0).2
+  Comes-write (Some (Make geometry)) comes is = (subst (Made geometry) (ending_write ending is) comes.2).1

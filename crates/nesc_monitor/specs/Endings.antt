@@ -1,8 +1,9 @@
 -- What a command of the program comes to, and what it says of it.
-use Rattle.std.specs.Prelude.{◌≡◌, ℕ, ◌<◌, ◌≤◌, ◌⊎◌, ◌++◌, List, [], length, take, codes, Option, Some, None}
+use Rattle.std.specs.Prelude.{◌≡◌, ℕ, ◌<◌, ◌≤◌, ◌⊎◌, ◌++◌, true, List, [], length, take, codes, Option, Some, None}
 use Rattle.std.specs.Fmt.{decimal}
 use Rattle.nesc_base.specs.Disk.{Known, Leaves, Unchanged}
 use Rattle.nesc_base.specs.Fault.{Rose}
+use Rattle.nesc_base.specs.Files.{Files}
 use Rattle.nesc_base.specs.Sink.{Appends}
 use Rattle.nesc_base.specs.Script.{Script}
 use Rattle.nesc_base.specs.declared.word.Word.{Word}
@@ -15,9 +16,11 @@ use Rattle.script_lang.specs.Limits.{most_bytes, most_queued}
 use Rattle.script_lang.specs.ScheduleText.{schedule_of}
 use Rattle.image_layout.specs.declared.fault.ImageFault.{ImageFault}
 use Rattle.image_layout.specs.declared.fault.ImageFault.TheVariants.{BadSuper, BadSize, BadList, BadTable, BadOwner, TwiceOwned}
+use Rattle.image_opening.specs.Parts.{IsTurnedDown, OpensAsItIs}
 use Rattle.image_tools.specs.Make.{OpensWhereMade}
 use Rattle.nesc_monitor.specs.Making.{Makes}
 use Rattle.nesc_monitor.specs.Reading.{TakesFront}
+use Rattle.nesc_monitor.specs.Starting.{IsOpened, StartsFrom}
 use Rattle.nesc_monitor.specs.Watched.{HasFailed, IsUntouched, Watched}
 use Rattle.nesc_monitor.specs.declared.words.Command.{Command}
 use Rattle.nesc_monitor.specs.declared.words.Command.TheVariants.{Run, Make}
@@ -78,28 +81,30 @@ abbrev pub IsReadOut : Option (List ℕ) → Option (List ℕ) → Type 0
 IsReadOut None after = Unit {0}
 IsReadOut (Some bytes) after = after ≡ Some []
 
--- The output is the trace of a run of the plain machine, from no files, over the commands of the one text and the
--- words of the other.
-pub record IsTrace (commands schedule output : List ℕ) : Type 0 where
+-- The output is the trace of a run of the plain machine, from the files as which the image opens, over the commands of
+-- the one text and the words of the other. Of a disk that does not tell what it holds, the files are not known.
+pub record IsTrace (image : Known) (commands schedule output : List ℕ) : Type 0 where
+  pub files : Files
+  pub starts : StartsFrom image files
   pub script : Script
   pub words : List Word
   pub read_commands : IsCommandsText commands script
   pub read_schedule : schedule_of schedule ≡ Some words
   pub groups : List (List Line)
   pub end : State
-  pub run : machine.Run (start most_queued script) words groups end
+  pub run : machine.Run (start files most_queued script) words groups end
   pub text : output ≡ trace_text groups
 
 -- where the sources and the sink tell their bytes: such an output stands behind what the sink had
-abbrev pub WritesTrace : Option (List ℕ) → Option (List ℕ) → Option (List ℕ) → Option (List ℕ) → Type 0
-WritesTrace (Some commands) (Some schedule) (Some before) after = (output : List ℕ) × IsTrace commands schedule output × (after ≡ Some (before ++ output))
-WritesTrace commands schedule before after = Unit {0}
+abbrev pub WritesTrace : Known → Option (List ℕ) → Option (List ℕ) → Option (List ℕ) → Option (List ℕ) → Type 0
+WritesTrace image (Some commands) (Some schedule) (Some before) after = (output : List ℕ) × IsTrace image commands schedule output × (after ≡ Some (before ++ output))
+WritesTrace image commands schedule before after = Unit {0}
 
 -- so do the first bytes of such an output
-abbrev pub WritesFront : Option (List ℕ) → Option (List ℕ) → Option (List ℕ) → Option (List ℕ) → Type 0
-WritesFront (Some commands) (Some schedule) (Some before) after =
-    (output : List ℕ) × IsTrace commands schedule output × (n : ℕ) × (n ≤ length output) × (after ≡ Some (before ++ take n output))
-WritesFront commands schedule before after = Unit {0}
+abbrev pub WritesFront : Known → Option (List ℕ) → Option (List ℕ) → Option (List ℕ) → Option (List ℕ) → Type 0
+WritesFront image (Some commands) (Some schedule) (Some before) after =
+    (output : List ℕ) × IsTrace image commands schedule output × (n : ℕ) × (n ≤ length output) × (after ≡ Some (before ++ take n output))
+WritesFront image commands schedule before after = Unit {0}
 
 -- where the sources tell their texts, both are accepted
 abbrev pub AreAccepted : Option (List ℕ) → Option (List ℕ) → Type 0
@@ -120,7 +125,7 @@ IsScheduleRefused (Some commands) (Some schedule) =
     (schedule_of schedule ≡ None) × (length commands ≤ most_bytes) × ((most_bytes < length schedule) ⊎ ((script : Script) × IsCommandsText commands script))
 IsScheduleRefused commands schedule = Unit {0}
 
--- why no step was taken, where the texts were looked at: the sources, and why
+-- why the image was not looked at: the sources, and why
 abbrev pub IsTurnedAway : Ending → Watched → Watched → Type 0
 IsTurnedAway ending.Memory commands schedule = Unit {0}
 IsTurnedAway ending.Commands commands schedule = IsCommandsRefused commands.before schedule.before
@@ -128,32 +133,35 @@ IsTurnedAway ending.Schedule commands schedule = IsScheduleRefused commands.befo
 IsTurnedAway ending.Read commands schedule = HasFailed commands ⊎ HasFailed schedule
 IsTurnedAway other commands schedule = ⊥
 
--- what the command `run` comes to: the two sources, and the sink
-abbrev pub Runs : Ending → Watched → Watched → Watched → Type 0
-Runs ending.Done commands schedule out =
-    AreAccepted commands.before schedule.before × WritesTrace commands.before schedule.before out.before out.after × IsReadOut commands.before commands.after × IsReadOut schedule.before schedule.after
-Runs ending.Write commands schedule out =
-    AreAccepted commands.before schedule.before × HasFailed out × WritesFront commands.before schedule.before out.before out.after
-Runs other commands schedule out = IsTurnedAway other commands schedule × (out.after ≡ out.before)
+-- where the sources tell their texts, both were accepted, and nothing is left of either
+pub record AreTaken (commands schedule : Watched) : Type 0 where
+  pub accepted : AreAccepted commands.before schedule.before
+  pub no_commands : IsReadOut commands.before commands.after
+  pub no_schedule : IsReadOut schedule.before schedule.after
+
+-- What the command `run` comes to: the two sources, the image before and after, and the sink. The image is opened once
+-- both texts are accepted. Where there was no memory it may have been, and else nothing was asked of it.
+abbrev pub Runs : Ending → Watched → Watched → Known → Known → Watched → Type 0
+Runs ending.Done commands schedule old new out = AreTaken commands schedule × IsOpened old × WritesTrace old commands.before schedule.before out.before out.after
+Runs ending.Write commands schedule old new out =
+    AreTaken commands schedule × IsOpened old × HasFailed out × WritesFront old commands.before schedule.before out.before out.after
+Runs (ending.Image fault) commands schedule old new out =
+    AreTaken commands schedule × (old.tells ≡ true → IsTurnedDown old.contents fault) × (out.after ≡ out.before)
+Runs ending.Device commands schedule old new out = AreTaken commands schedule × Rose old.faults new.faults × (out.after ≡ out.before)
+Runs ending.Memory commands schedule old new out = out.after ≡ out.before
+Runs other commands schedule old new out = IsTurnedAway other commands schedule × (new.faults ≡ old.faults) × (out.after ≡ out.before)
 
 -- What an ending says, by the command that the words are: of the two sources, of the image and of the sink.
 abbrev pub Comes : Ending → Option Command → Watched → Watched → Known → Known → Watched → Type 0
 Comes outcome None commands schedule old new out =
     (outcome ≡ ending.Words) × IsUntouched commands × IsUntouched schedule × Unchanged old new × IsUntouched out
-Comes outcome (Some Run) commands schedule old new out = Runs outcome commands schedule out × Unchanged old new
+Comes outcome (Some Run) commands schedule old new out = Runs outcome commands schedule old new out × Unchanged old new
 Comes outcome (Some (Make geometry)) commands schedule old new out = IsUntouched commands × IsUntouched schedule × Makes outcome geometry old new out
 
 -- while an image is made, a stop on the way leaves one that opens wherever it has its superblock; else nothing new
 abbrev pub AtAnyMoment : Option Command → Known → Known → Type 0
 AtAnyMoment (Some (Make geometry)) old new = Leaves (λ _. OpensWhereMade geometry (old.left old.clock)) old new
 AtAnyMoment command old new = Leaves (λ _ _. ⊥) old new
-
--- what the steps can come to
-abbrev pub IsOfSteps : Ending → Type 0
-IsOfSteps ending.Done = Unit {0}
-IsOfSteps ending.Memory = Unit {0}
-IsOfSteps ending.Write = Unit {0}
-IsOfSteps other = ⊥
 
 -- what a sink had and has taken, and how often it had failed and has failed: it has the line of the ending behind what
 -- it had, where it tells that and did not fail
@@ -179,10 +187,24 @@ IsCarriedOut Memory before after = after ≡ before
 IsCarriedOut status before after = ⊥
 
 -- a text was refused, or there was no memory
-abbrev pub IsTurnedDown : Status → Type 0
-IsTurnedDown Input = Unit {0}
-IsTurnedDown Memory = Unit {0}
-IsTurnedDown status = ⊥
+abbrev pub IsInputRefused : Status → Type 0
+IsInputRefused Input = Unit {0}
+IsInputRefused Memory = Unit {0}
+IsInputRefused status = ⊥
+
+-- the image was refused, or there was no memory
+abbrev pub IsImageRefused : Status → Type 0
+IsImageRefused Image = Unit {0}
+IsImageRefused Memory = Unit {0}
+IsImageRefused status = ⊥
+
+-- the disk tells what it holds, and that opens as it is
+abbrev pub OpensKnown : Known → Type 0
+OpensKnown disk = (disk.tells ≡ true) × (files : Files) × OpensAsItIs disk.contents files
+
+-- the disk tells what it holds, and that is turned down
+abbrev pub IsKnownTurnedDown : Known → Type 0
+IsKnownTurnedDown disk = (disk.tells ≡ true) × (fault : ImageFault) × IsTurnedDown disk.contents fault
 
 -- it comes before the first step
 abbrev pub IsEarly : Status → Type 0

@@ -2,6 +2,7 @@ pub mod Endings
 pub mod Making
 pub mod Pieces
 pub mod Reading
+pub mod Starting
 pub mod Steps
 pub mod Texts
 pub mod Watched

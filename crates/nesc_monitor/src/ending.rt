@@ -1,12 +1,13 @@
 ghost use Rattle.std.specs.Prelude.{◌≡◌, ◌++◌, codes};
 ghost use Rattle.std.specs.Fmt.{decimal};
 ghost use Rattle.nesc_monitor.specs.Endings.{code_of, error_line, status_of};
+ghost use Rattle.nesc_monitor.specs.Starting.{ending_of};
 ghost use Rattle.image_layout.specs.declared.fault.ImageFault.TheVariants.{TwiceOwned};
 ghost use Rattle.nesc_monitor.specs.declared.ending.Ending.TheVariants as ending;
 ghost use Rattle.text_kit.specs.Writes.{Writes};
 
 use crate::pieces::{Piece, write_pieces};
-use image_layout::ImageFault;
+use image_layout::{ImageFault, OpenFault};
 use nesc_base::{FileNo, Sink, WriteFault};
 use text_kit::write_text;
 
@@ -73,6 +74,17 @@ pub enum Ending {
 }
 
 impl Ending {
+    /// What it comes to that an image was not opened.
+    pub fn of_opening(fault: OpenFault) -> Ending
+        ensures { result ≡ ending_of fault }
+    {
+        match fault {
+            OpenFault::NoMemory => Ending::Memory,
+            OpenFault::Disk(_) => Ending::Device,
+            OpenFault::Image(fault) => Ending::Image(fault),
+        }
+    }
+
     /// The status of the program.
     pub fn status(self) -> Status
         ensures { result ≡ status_of self }

@@ -1,18 +1,21 @@
-ghost use Rattle.std.specs.Prelude.{◌≡◌, ◌<◌, ◌≤◌, ◌↔◌, ◌⊎◌, ◌++◌, [], map, codes, string_bytes, IsErr, None, OnOk, Some};
+ghost use Rattle.std.specs.Prelude.{◌≡◌, ◌<◌, ◌≤◌, ◌↔◌, ◌⊎◌, ◌++◌, [], map, codes, string_bytes, true, IsErr, None, OnOk, Some};
 ghost use Rattle.std.specs.Fmt.{decimal};
 ghost use Rattle.nesc_base.specs.declared.geometry.Geometry.{Geometry};
-ghost use Rattle.nesc_base.specs.Disk.{Goes, Leaves};
+ghost use Rattle.nesc_base.specs.Disk.{Goes, Leaves, Unchanged};
 ghost use Rattle.nesc_base.specs.Fault.{HasCause, Rose};
+ghost use Rattle.nesc_base.specs.Files.{Files};
 ghost use Rattle.nesc_base.specs.Geometry.{IsGeometry, total};
 ghost use Rattle.nesc_base.specs.Sink.{Appends};
 ghost use Rattle.text_kit.specs.Buffered.{lent_name, pending_of, sink_of};
 ghost use Rattle.text_kit.specs.Writes.{Writes};
-ghost use Rattle.file_model.specs.State.{start};
+ghost use Rattle.image_layout.specs.declared.fault.ImageFault.{ImageFault};
+ghost use Rattle.image_opening.specs.Parts.{IsTurnedDown};
 ghost use Rattle.image_tools.specs.Make.{OpensWhereMade};
 ghost use Rattle.script_lang.specs.CommandsText.{blocks_in_all};
-ghost use Rattle.script_lang.specs.Limits.{most_blocks, most_queued};
+ghost use Rattle.script_lang.specs.Limits.{most_blocks};
 ghost use Rattle.nesc_session.specs.Session.{IsReady, state_of};
-ghost use Rattle.nesc_monitor.specs.Endings.{AreKnownAccepted, AreKnownRefused, AtAnyMoment, Comes, IsCarriedOut, IsEarly, IsOfSteps, IsTakenFromFront, IsToldOn, IsTurnedDown, Runs, WritesTrace, status_of};
+ghost use Rattle.nesc_monitor.specs.Endings.{AreKnownAccepted, AreKnownRefused, AtAnyMoment, Comes, IsCarriedOut, IsEarly, IsImageRefused, IsInputRefused, IsKnownTurnedDown, IsTakenFromFront, IsToldOn, OpensKnown, Runs, WritesTrace, status_of};
+ghost use Rattle.nesc_monitor.specs.Starting.{StartsAndTells};
 ghost use Rattle.nesc_monitor.specs.Making.{IsMade, Makes, made_text};
 ghost use Rattle.nesc_monitor.specs.Steps.{TellsAll, TellsFront};
 ghost use Rattle.nesc_monitor.specs.Watched.{HasFailed, watch};
@@ -41,8 +44,8 @@ fn write_trace<K: Sink>(
 ) -> Result<(), WriteFault>
     requires room { IsReady session.old }
     requires empty { pending_of buffered.old ≡ [] }
-    ensures all { OnOk result (TellsAll (state_of session.old) schedule.old (K.taken (sink_of buffered.old)) (K.taken (sink_of buffered.new))) }
-    ensures front { TellsFront (state_of session.old) schedule.old (K.taken (sink_of buffered.old)) (K.taken (sink_of buffered.new)) }
+    ensures all { (kept : Files) → OnOk result (TellsAll (state_of kept session.old) schedule.old (K.taken (sink_of buffered.old)) (K.taken (sink_of buffered.new))) }
+    ensures front { (kept : Files) → TellsFront (state_of kept session.old) schedule.old (K.taken (sink_of buffered.old)) (K.taken (sink_of buffered.new)) }
     ensures lent { lent_name buffered.new ≡ lent_name buffered.old }
     ensures cause { HasCause (K.faults (sink_of buffered.old)) (K.faults (sink_of buffered.new)) (IsErr result) }
 {
@@ -60,22 +63,22 @@ fn write_out<K: Sink>(
     out: &mut K,
 ) -> Result<(), WriteFault>
     requires { IsReady session.old }
-    ensures all { OnOk result (TellsAll (state_of session.old) schedule.old (K.taken out.old) (K.taken out.new)) }
-    ensures front { TellsFront (state_of session.old) schedule.old (K.taken out.old) (K.taken out.new) }
+    ensures all { (kept : Files) → OnOk result (TellsAll (state_of kept session.old) schedule.old (K.taken out.old) (K.taken out.new)) }
+    ensures front { (kept : Files) → TellsFront (state_of kept session.old) schedule.old (K.taken out.old) (K.taken out.new) }
     ensures cause { HasCause (K.faults out.old) (K.faults out.new) (IsErr result) }
 {
     let mut buffered = Buffered::new(buffer, out);
     write_trace(session, schedule, &mut buffered)
 }
 
-/// Takes the steps of a script from no files on, and writes their trace.
-fn write_run<K: Sink>(alloc: Global, script: Script, out: &mut K) -> Ending
+/// Opens the image, takes the steps of a script from its files on, and writes their trace.
+fn write_run<D: Disk, K: Sink>(alloc: Global, script: Script, image: &mut D, out: &mut K) -> Ending
     requires { blocks_in_all script.commands ≤ most_blocks }
-    ensures all { result ≡ Ending.Done → TellsAll (start most_queued script.commands) script.schedule (K.taken out.old) (K.taken out.new) }
-    ensures front { result ≡ Ending.Write → TellsFront (start most_queued script.commands) script.schedule (K.taken out.old) (K.taken out.new) }
-    ensures memory { result ≡ Ending.Memory → K.taken out.new ≡ K.taken out.old }
-    ensures others { IsOfSteps result }
-    ensures cause { HasCause (K.faults out.old) (K.faults out.new) (result ≡ Ending.Write) }
+    ensures steps { StartsAndTells result (D.known image.old) (D.known image.new) script.commands script.schedule (watch K.taken K.faults out.old out.new) }
+    ensures unchanged { Unchanged (D.known image.old) (D.known image.new) }
+    ensures goes { Goes (D.known image.old) (D.known image.new) }
+    ensures keeps { D.keeps image.old image.new }
+    ensures never_fall { ((D.known image.old).faults ≤ (D.known image.new).faults) × (K.faults out.old ≤ K.faults out.new) }
 {
     let Script {
         commands,
@@ -84,8 +87,9 @@ fn write_run<K: Sink>(alloc: Global, script: Script, out: &mut K) -> Ending
     let Ok(mut buffer) = Buffer::new(alloc) else {
         return Ending::Memory;
     };
-    let Ok(mut session) = Session::new(alloc, commands) else {
-        return Ending::Memory;
+    let mut session = match Session::begin(alloc, image, commands) {
+        Ok(session) => session,
+        Err(fault) => return Ending::of_opening(fault),
     };
     match write_out(&mut session, &mut schedule, &mut buffer, out) {
         Ok(()) => Ending::Done,
@@ -93,22 +97,28 @@ fn write_run<K: Sink>(alloc: Global, script: Script, out: &mut K) -> Ending
     }
 }
 
-/// Carries out the command `run`: reads both texts, and takes the steps.
-fn run_texts<S: Source, K: Sink>(
+/// Carries out the command `run`: reads both texts, opens the image, and takes the steps.
+fn run_texts<S: Source, D: Disk, K: Sink>(
     alloc: Global,
     commands: &mut S,
     schedule: &mut S,
+    image: &mut D,
     out: &mut K,
 ) -> Ending
     ensures runs { Runs result
         (watch S.left S.faults commands.old commands.new)
         (watch S.left S.faults schedule.old schedule.new)
+        (D.known image.old) (D.known image.new)
         (watch K.taken K.faults out.old out.new) }
     ensures taken { IsTakenFromFront (watch S.left S.faults commands.old commands.new) × IsTakenFromFront (watch S.left S.faults schedule.old schedule.new) }
-    ensures never_fall { (S.faults commands.old ≤ S.faults commands.new) × (S.faults schedule.old ≤ S.faults schedule.new) × (K.faults out.old ≤ K.faults out.new) }
+    ensures never_fall { (S.faults commands.old ≤ S.faults commands.new) × (S.faults schedule.old ≤ S.faults schedule.new)
+        × ((D.known image.old).faults ≤ (D.known image.new).faults) × (K.faults out.old ≤ K.faults out.new) }
+    ensures unchanged { Unchanged (D.known image.old) (D.known image.new) }
+    ensures goes { Goes (D.known image.old) (D.known image.new) }
+    ensures keeps { D.keeps image.old image.new }
 {
     match read_script(alloc, commands, schedule) {
-        Ok(script) => write_run(alloc, script, out),
+        Ok(script) => write_run(alloc, script, image, out),
         Err(ending) => ending,
     }
 }
@@ -167,7 +177,7 @@ fn carry_out<S: Source, K: Sink, D: Disk>(
     ensures keeps { D.keeps image.old image.new }
 {
     match read_words(words) {
-        Some(Command::Run) => run_texts(alloc, commands, schedule, out),
+        Some(Command::Run) => run_texts(alloc, commands, schedule, image, out),
         Some(Command::Make(geometry)) => make_image(image, geometry, out),
         None => Ending::Words,
     }
@@ -175,8 +185,9 @@ fn carry_out<S: Source, K: Sink, D: Disk>(
 
 /// Carries out the command that the words of the command line name.
 ///
-/// `run` reads the commands file and the schedule, takes the steps of the schedule over files kept in memory, and
-/// writes the trace to `out`. Nothing goes to `out` before both texts are accepted, and nothing is asked of `image`.
+/// `run` reads the commands file and the schedule, opens `image`, takes the steps of the schedule from its files on, and
+/// writes the trace to `out`. Nothing is asked of `image` before both texts are accepted, and nothing goes to `out`
+/// before it is open. The files are kept in memory: `image` is read, each block of it once at most, and not written.
 ///
 /// `make --blocks N` and `make --blocks N --slack S` make an image of no files on `image`, over whatever that held,
 /// and write to `out` how many blocks it has.
@@ -195,16 +206,23 @@ pub fn run<S: Source, K: Sink, E: Sink, D: Disk>(
 ) -> Status
     ensures words { (result ≡ Status.Words) ↔ (command_of (map string_bytes words.now) ≡ None) }
 
-    // `run`: the whole trace is that of a run of the plain machine over both texts.
+    // `run`: the whole trace is that of a run of the plain machine over both texts, from the files of the image.
     ensures done { command_of (map string_bytes words.now) ≡ Some Run → result ≡ Status.Done
-        → WritesTrace (S.left commands.old) (S.left schedule.old) (K.taken out.old) (K.taken out.new) }
+        → WritesTrace (D.known image.old) (S.left commands.old) (S.left schedule.old) (K.taken out.old) (K.taken out.new) }
 
-    // Where nothing fails and there is memory, texts that are accepted are carried out, and others are turned down.
-    ensures complete { command_of (map string_bytes words.now) ≡ Some Run → AreKnownAccepted (S.left commands.old) (S.left schedule.old)
-        → ¬ HasFailed (watch S.left S.faults commands.old commands.new) → ¬ HasFailed (watch S.left S.faults schedule.old schedule.new) → ¬ HasFailed (watch K.taken K.faults out.old out.new)
+    // Where nothing fails and there is memory, texts that are accepted are carried out if the image opens, and else the
+    // image is refused; other texts are refused.
+    ensures complete { command_of (map string_bytes words.now) ≡ Some Run → AreKnownAccepted (S.left commands.old) (S.left schedule.old) → OpensKnown (D.known image.old)
+        → ¬ HasFailed (watch S.left S.faults commands.old commands.new) → ¬ HasFailed (watch S.left S.faults schedule.old schedule.new)
+        → ¬ Rose (D.known image.old).faults (D.known image.new).faults → ¬ HasFailed (watch K.taken K.faults out.old out.new)
         → IsCarriedOut result (K.taken out.old) (K.taken out.new) }
+    ensures image_refused { command_of (map string_bytes words.now) ≡ Some Run → AreKnownAccepted (S.left commands.old) (S.left schedule.old) → IsKnownTurnedDown (D.known image.old)
+        → ¬ HasFailed (watch S.left S.faults commands.old commands.new) → ¬ HasFailed (watch S.left S.faults schedule.old schedule.new)
+        → ¬ Rose (D.known image.old).faults (D.known image.new).faults → IsImageRefused result }
+    ensures turned_down { command_of (map string_bytes words.now) ≡ Some Run → result ≡ Status.Image → (D.known image.old).tells ≡ true
+        → (fault : ImageFault) × IsTurnedDown (D.known image.old).contents fault }
     ensures refused { command_of (map string_bytes words.now) ≡ Some Run → AreKnownRefused (S.left commands.old) (S.left schedule.old)
-        → ¬ HasFailed (watch S.left S.faults commands.old commands.new) → ¬ HasFailed (watch S.left S.faults schedule.old schedule.new) → IsTurnedDown result }
+        → ¬ HasFailed (watch S.left S.faults commands.old commands.new) → ¬ HasFailed (watch S.left S.faults schedule.old schedule.new) → IsInputRefused result }
 
     // `make`: the image is made, and opens with no files after a stop from then on; on the way it opens wherever it
     // has its superblock.

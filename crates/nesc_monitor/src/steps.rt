@@ -1,3 +1,4 @@
+ghost use Rattle.nesc_base.specs.Files.{Files};
 ghost use Rattle.nesc_monitor.specs.Steps.{TakesSteps, TellsStep};
 ghost use Rattle.nesc_session.specs.Session.{IsReady, state_of};
 
@@ -9,7 +10,7 @@ use script_lang::Schedule;
 /// Takes one step, and then writes its lines.
 fn take_step<K: Sink>(session: &mut Session, word: Word, sink: &mut K) -> Result<(), WriteFault>
     requires { IsReady session.old }
-    ensures told { TellsStep K.taken K.faults K.lent (state_of session.old) word (state_of session.new) sink.old sink.new result }
+    ensures told { (kept : Files) → TellsStep K.taken K.faults K.lent (state_of kept session.old) word (state_of kept session.new) sink.old sink.new result }
     ensures room { IsReady session.new }
 {
     let outcome = session.step(word);
@@ -23,7 +24,7 @@ pub fn take_steps<K: Sink>(
     sink: &mut K,
 ) -> Result<(), WriteFault>
     requires { IsReady session.old }
-    ensures { TakesSteps K.taken K.faults K.lent (state_of session.old) schedule.old sink.old sink.new result }
+    ensures { (kept : Files) → TakesSteps K.taken K.faults K.lent (state_of kept session.old) schedule.old sink.old sink.new result }
 {
     let steps = schedule.steps() as u64;
     while let Some(word) = schedule.word() {

@@ -13,7 +13,7 @@ use Rattle.nesc_session.specs.FilesInMemory.{Writes}
 use Rattle.nesc_session.proofs.Puts.{All-range, IsDistinct-range, none_from, get-with_zeros_other}
 use Rattle.nesc_session.proofs.Standing.{file_at-stands}
 use Rattle.nesc_session.proofs.Wanted.{is_wanted, wanted_from, wanted-fresh, wanted-held}
-use Rattle.nesc_session.proofs.Written.{get-insert_here, insert_same, insert_again}
+use Rattle.nesc_base.proofs.Maps.{get-insert_same, insert_there, insert-insert}
 
 with_zeros-push : (body : Body) (blocks : List ℕ) (at : ℕ) → with_zeros body (blocks ++ at ∷ []) ≡ insert (with_zeros body blocks) at zero_block
 with_zeros-push body [] at = refl
@@ -29,14 +29,14 @@ lies_from held at len is = grind (arith, nat_tests)
 module _ (old : Files) (n : ℕ) (file : File) (stands : get old n ≡ Some file) where
   -- what the files are after blocks came to be held
   result-HoldsAll : {new : Files} (blocks : List ℕ) → HoldsAll old n blocks new → new ≡ insert old n (record file { body = with_zeros file.body blocks })
-  result-HoldsAll [] same = same ∙ sym (insert_same old n file stands)
+  result-HoldsAll [] same = same ∙ sym (insert_there old n file stands)
   result-HoldsAll (v ∷ blocks) holding =
       holding.result ∙ ap (λ f. insert old n (record f { body = with_zeros f.body (v ∷ blocks) })) (same_Some _ _ (sym holding.stands ∙ stands))
 
   HoldsAll-result : {new : Files} (blocks : List ℕ)
       → AllByRecursion (λ v. v < file.length) blocks → AllByRecursion (λ v. get file.body v ≡ None) blocks → IsDistinct nat_eq blocks
       → new ≡ insert old n (record file { body = with_zeros file.body blocks }) → HoldsAll old n blocks new
-  HoldsAll-result [] below fresh apart result = result ∙ insert_same old n file stands
+  HoldsAll-result [] below fresh apart result = result ∙ insert_there old n file stands
   HoldsAll-result (v ∷ blocks) below fresh apart result = record { file = file; stands = stands; below = below; fresh = fresh; apart = apart; result = result }
 
   -- they did, if the files are so
@@ -48,7 +48,7 @@ module _ (old : Files) (n : ℕ) (file : File) (stands : get old n ≡ Some file
 
   module _ (mid : Files) (v m at : ℕ) (here : v + m ≡ at) (so_far : HoldsAll old n (wanted_from file v m) mid) where
     stands_then : get mid n ≡ Some (record file { body = with_zeros file.body (wanted_from file v m) })
-    stands_then = ap (λ files. get files n) (result-HoldsAll (wanted_from file v m) so_far) ∙ get-insert_here old n _
+    stands_then = ap (λ files. get files n) (result-HoldsAll (wanted_from file v m) so_far) ∙ get-insert_same old n _
 
     -- the file is as long as it was
     pub length_then : (file_at mid n).length ≡ file.length
@@ -65,7 +65,7 @@ module _ (old : Files) (n : ℕ) (file : File) (stands : get old n ≡ Some file
     HoldsAll-fresh {new} below free writes = HoldsAll-wanted v (suc m) (
         writes.result
         ∙ (λ i. insert (result-HoldsAll (wanted_from file v m) so_far i) n (record (same i) { body = insert (same i).body at zero_block }))
-        ∙ insert_again old n _ _
+        ∙ insert-insert old n _ _
         ∙ ap (λ body. insert old n (record file { body = body })) (sym (with_zeros-push file.body (wanted_from file v m) at) ∙ ap (with_zeros file.body) (sym (wanted-fresh file v m at here below free)))
         )
       where

@@ -1,9 +1,12 @@
 pub mod Created
 pub mod Filters
 pub mod Found
+pub mod HeldIn
 pub mod Holding
 pub mod Items
 pub mod KeepsHeld
+pub mod KeptNames
+pub mod Loaded
 pub mod Numbered
 pub mod Placed
 pub mod Puts

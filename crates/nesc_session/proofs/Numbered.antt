@@ -1,18 +1,20 @@
 -- The files by their numbers: what each is, and how they change as one is made or a block is written.
-use Rattle.std.proofs.Common.{◌≡◌, ◌≢◌, ℕ, zero, suc, ◌+◌, ◌<◌, ◌≤◌, Bool, true, false, cond, eqb, List, [], ◌∷◌, length, Option, None, Some, IsSome, is_some, unwrap_or, slice_get, refl, sym, ap, subst, ◌∙◌, add-zero, arith}
+use Rattle.std.proofs.Common.{◌≡◌, ◌≢◌, ℕ, zero, suc, ◌+◌, Bool, true, false, cond, eqb, List, [], ◌∷◌, Option, None, Some, IsSome, is_some, unwrap_or, slice_get, get_or, refl, sym, ap, subst, ◌∙◌, arith}
 use Rattle.std.proofs.lemmas.Bool.{false≢true}
 use Rattle.std.proofs.lemmas.Bool.Decides.{nat_tests}
+use Rattle.std.proofs.lemmas.Option.{unwrap_or-slice_get}
 use Rattle.std.specs.Ordering.{eq_by_cmp, nat_cmp}
 use Rattle.std.specs.Cmp.{nat_cmp_total}
 use Rattle.std.specs.Option.{option_map}
 use Rattle.std.specs.FinMap.{FinMap, contains_key, empty, get, get-empty, find, entries, get-entries, get-from_entries}
 use Rattle.nesc_base.specs.declared.block.Block.{Block}
 use Rattle.nesc_base.specs.Files.{File, file_at}
+use Rattle.nesc_base.proofs.Numbered.{get_before, get_from}
+use Rattle.image_layout.specs.declared.table.TableEntry.{TableEntry}
 use Rattle.file_model.specs.Files.{holds}
-use Rattle.nesc_session.specs.declared.files.FileEntry.{FileEntry}
 use Rattle.nesc_session.specs.declared.files.held.Place.{Place}
 use Rattle.nesc_session.specs.HeldBlocks.{place_cmp, is_same_place}
-use Rattle.nesc_session.specs.FilesInMemory.{FilesInMemory, entries_in, body_of, file_of, entry_at, numbered_from, files_of}
+use Rattle.nesc_session.specs.FilesInMemory.{FilesInMemory, entries_in, body_of, file_of, entry_at, files_of}
 use Rattle.nesc_session.proofs.Placed.{is_some-option_map, eq_by_cmp-place_cmp}
 
 -- the place of a file's block
@@ -49,60 +51,31 @@ find-entries_in n v (e ∷ es) =
 pub get-body_of : (blocks : FinMap place_cmp Block) (n v : ℕ) → get (body_of blocks n) v ≡ get blocks (place n v)
 get-body_of blocks n v = get-from_entries nat_cmp_total (entries_in n (entries blocks)) v ∙ find-entries_in n v (entries blocks) ∙ sym (get-entries blocks (place n v))
 
-slice_get_some_within : {A : Type 0} (es : List A) (k : ℕ) → is_some (slice_get es k) ≡ true → k + 1 ≤ length es
-slice_get_some_within [] k some = absurd (false≢true some)
-slice_get_some_within (e ∷ es) zero some = omega arith
-slice_get_some_within (e ∷ es) (suc k) some = omega (arith, slice_get_some_within es k some)
-
-is_some-slice_get : {A : Type 0} (es : List A) (k : ℕ) → k < length es → is_some (slice_get es k) ≡ true
-is_some-slice_get [] k within = absurd (omega arith)
-is_some-slice_get (e ∷ es) zero within = refl
-is_some-slice_get (e ∷ es) (suc k) within = is_some-slice_get es k (omega arith)
-
--- each number up to how many there are is that of an entry
-pub is_some-entry_at : (es : List FileEntry) (q : ℕ) → 1 ≤ q → q ≤ length es → is_some (entry_at es q) ≡ true
-is_some-entry_at es zero first last = absurd (omega arith)
-is_some-entry_at es (suc k) first last = is_some-slice_get es k last
+-- the entry of a number, by the place that it has in the list
+pub entry_at-get_or : (es : List (Option TableEntry)) (k : ℕ) → entry_at es (suc k) ≡ get_or es k None
+entry_at-get_or es k = unwrap_or-slice_get es k None
 
 module _ (blocks : FinMap place_cmp Block) where
-  -- no file has a number below the first
-  find-numbered_from_below : (q n : ℕ) (es : List FileEntry) → q < n → find nat_cmp q (numbered_from blocks n es) ≡ None
-  find-numbered_from_below q n [] below = refl
-  find-numbered_from_below q n (e ∷ es) below = rw (eq_by_cmp-nat_cmp q n, eqb_apart q n (omega arith)) (find-numbered_from_below q (n + 1) es (omega arith))
-
-  -- the k-th file behind the first
-  find-numbered_from : (n k : ℕ) (es : List FileEntry) → find nat_cmp (n + k) (numbered_from blocks n es) ≡ option_map (file_of blocks (n + k)) (slice_get es k)
-  find-numbered_from n k [] = refl
-  find-numbered_from n zero (e ∷ es) = rw (add-zero, eq_by_cmp-nat_cmp n n, eqb_itself n) refl
-  find-numbered_from n (suc k) (e ∷ es) =
-      let next : (n + 1) + k ≡ n + suc k = omega arith in
-      rw (eq_by_cmp-nat_cmp (n + suc k) n, eqb_apart (n + suc k) n (omega arith)) (subst (λ q. find nat_cmp q (numbered_from blocks (n + 1) es) ≡ option_map (file_of blocks q) (slice_get es k)) next (find-numbered_from (n + 1) k es))
-
   -- the file of a number is that of its entry
-  pub get-files_of : (es : List FileEntry) (q : ℕ) → get (files_of es blocks) q ≡ option_map (file_of blocks q) (entry_at es q)
-  get-files_of es zero = get-from_entries nat_cmp_total (numbered_from blocks 1 es) 0 ∙ find-numbered_from_below 0 1 es (omega arith)
-  get-files_of es (suc k) = get-from_entries nat_cmp_total (numbered_from blocks 1 es) (suc k) ∙ subst (λ q. find nat_cmp q (numbered_from blocks 1 es) ≡ option_map (file_of blocks q) (slice_get es k)) one_more (find-numbered_from 1 k es)
-    where
-      one_more : 1 + k ≡ suc k
-      one_more = omega arith
+  pub get-files_of : (es : List (Option TableEntry)) (q : ℕ) → get (files_of es blocks) q ≡ option_map (file_of blocks q) (entry_at es q)
+  get-files_of es zero = get_before (file_of blocks) 1 es 0 (omega arith)
+  get-files_of es (suc k) =
+      let one_more : 1 + k ≡ suc k = omega arith in
+      subst (λ q. get (files_of es blocks) q ≡ option_map (file_of blocks q) (unwrap_or (slice_get es k) None)) one_more (get_from (file_of blocks) 1 es k)
 
 -- What callers see
 
 abbrev no_file : File
 no_file = record { name = []; length = 0; body = empty }
 
-module _ (blocks : FinMap place_cmp Block) (es : List FileEntry) {now : FilesInMemory} {room : ℕ} (view : record { files = files_of es blocks; room = room } ≡ now) where
+module _ (blocks : FinMap place_cmp Block) (es : List (Option TableEntry)) {now : FilesInMemory} {room : ℕ} (view : record { files = files_of es blocks; room = room } ≡ now) where
   -- the file of a number, by its entry
   pub get-now : (q : ℕ) → get now.files q ≡ option_map (file_of blocks q) (entry_at es q)
   get-now q = ap (λ m. get m.files q) (sym view) ∙ get-files_of blocks es q
 
-  -- a number that is used is that of one of the entries
-  pub stands_within : (q : ℕ) → IsSome (get now.files q) → (1 ≤ q) × (q ≤ length es)
-  stands_within q stands = at q (ap is_some (sym (get-now q)) ∙ stands)
-    where
-      at : (n : ℕ) → is_some (option_map (file_of blocks n) (entry_at es n)) ≡ true → (1 ≤ n) × (n ≤ length es)
-      at zero some = absurd (false≢true some)
-      at (suc k) some = (omega arith, omega (arith, slice_get_some_within es k (sym (is_some-option_map (file_of blocks (suc k)) (slice_get es k)) ∙ some)))
+  -- a number that is used is that of an entry
+  pub has_entry : (q : ℕ) → IsSome (get now.files q) → IsSome (entry_at es q)
+  has_entry q stands = sym (is_some-option_map (file_of blocks q) (entry_at es q)) ∙ ap is_some (sym (get-now q)) ∙ stands
 
   file_at-now : (q : ℕ) → file_at now.files q ≡ unwrap_or (option_map (file_of blocks q) (entry_at es q)) no_file
   file_at-now q = ap (λ o. unwrap_or o no_file) (get-now q)
@@ -111,24 +84,22 @@ module _ (blocks : FinMap place_cmp Block) (es : List FileEntry) {now : FilesInM
   pub length-now : (q : ℕ) → (file_at now.files q).length ≡ unwrap_or (option_map (λ e. e.length) (entry_at es q)) 0
   length-now q = ap (λ file. file.length) (file_at-now q) ∙ at (entry_at es q)
     where
-      at : (o : Option FileEntry) → (unwrap_or (option_map (file_of blocks q) o) no_file).length ≡ unwrap_or (option_map (λ e. e.length) o) 0
+      at : (o : Option TableEntry) → (unwrap_or (option_map (file_of blocks q) o) no_file).length ≡ unwrap_or (option_map (λ e. e.length) o) 0
       at None = refl
       at (Some entry) = refl
 
   -- what is held of a file is held at the block's place
-  pub get-body_now : ((p : Place) → IsSome (get blocks p) → (1 ≤ p.file.0) × (p.file.0 ≤ length es)) → (q v : ℕ) → get (file_at now.files q).body v ≡ get blocks (place q v)
+  pub get-body_now : ((p : Place) → IsSome (get blocks p) → IsSome (entry_at es p.file.0)) → (q v : ℕ) → get (file_at now.files q).body v ≡ get blocks (place q v)
   get-body_now filed q v = ap (λ file. get file.body v) (file_at-now q) ∙ at (entry_at es q) refl
     where
       unfiled : (o : Option Block) → get blocks (place q v) ≡ o → entry_at es q ≡ None → None ≡ o
       unfiled None e none = refl
-      unfiled (Some block) e none =
-          let within = filed (place q v) (ap is_some e) in
-          absurd (false≢true (sym (ap is_some none) ∙ is_some-entry_at es q within.0 within.1))
+      unfiled (Some block) e none = absurd (false≢true (sym (ap is_some none) ∙ filed (place q v) (ap is_some e)))
 
-      at : (o : Option FileEntry) → entry_at es q ≡ o → get (unwrap_or (option_map (file_of blocks q) o) no_file).body v ≡ get blocks (place q v)
+      at : (o : Option TableEntry) → entry_at es q ≡ o → get (unwrap_or (option_map (file_of blocks q) o) no_file).body v ≡ get blocks (place q v)
       at None e = get-empty nat_cmp v ∙ unfiled (get blocks (place q v)) refl e
       at (Some entry) e = get-body_of blocks q v
 
   -- and so is whether it is held
-  pub holds-now : ((p : Place) → IsSome (get blocks p) → (1 ≤ p.file.0) × (p.file.0 ≤ length es)) → (q v : ℕ) → holds (file_at now.files q) v ≡ contains_key blocks (place q v)
+  pub holds-now : ((p : Place) → IsSome (get blocks p) → IsSome (entry_at es p.file.0)) → (q v : ℕ) → holds (file_at now.files q) v ≡ contains_key blocks (place q v)
   holds-now filed q v = ap is_some (get-body_now filed q v)

@@ -14,7 +14,8 @@ use Rattle.file_model.specs.HostCommands.{PutsBlocks}
 use Rattle.nesc_session.specs.FilesInMemory.{with_blocks, Writes}
 use Rattle.nesc_session.proofs.Numbered.{eqb_apart}
 use Rattle.nesc_session.proofs.Standing.{file_at-stands}
-use Rattle.nesc_session.proofs.Written.{get-insert_at, get-insert_here, insert_same, insert_again}
+use Rattle.nesc_base.proofs.Maps.{get-insert_same, insert_there, insert-insert}
+use Rattle.nesc_session.proofs.Written.{get-insert_at}
 
 -- Those of a run of numbers that pass a test
 
@@ -75,7 +76,7 @@ is_some-with_zeros_range test body v (suc n) q low high passes =
 
     at : (b : Bool) → test v ≡ b → ((body : Body) → v < q → IsSome (get (with_zeros body rest) q)) → IsSome (get (with_zeros body (cond b (v ∷ rest) rest)) q)
     at true e later = ⊎_elim
-        (λ here. is_some-with_zeros (insert body v zero_block) rest q (subst (λ k. IsSome (get (insert body v zero_block) k)) here (ap is_some (get-insert_here body v zero_block))))
+        (λ here. is_some-with_zeros (insert body v zero_block) rest q (subst (λ k. IsSome (get (insert body v zero_block) k)) here (ap is_some (get-insert_same body v zero_block))))
         (λ apart. later (insert body v zero_block) (omega arith)) (cases_eq v q)
     at false e later = ⊎_elim (λ here. absurd (false≢true (sym e ∙ ap test here ∙ passes))) (λ apart. later body (omega arith)) (cases_eq v q)
 
@@ -95,12 +96,12 @@ with_blocks_agree (b ∷ bs) v one other agree = with_blocks_agree bs (v + 1) (i
 
 -- where each block of a run is held, one after another is put
 pub PutsEach-with_blocks : (files : Files) (n v : ℕ) (blocks : List Block) (file : File) → get files n ≡ Some file → ((q : ℕ) → v ≤ q → q < v + length blocks → IsSome (get file.body q)) → PutsEach files n v blocks (insert files n (record file { body = with_blocks file.body v blocks }))
-PutsEach-with_blocks files n v [] file stands held = insert_same files n file stands
+PutsEach-with_blocks files n v [] file stands held = insert_there files n file stands
 PutsEach-with_blocks files n v (b ∷ bs) file stands held = (
   next,
   record { file = file; stands = stands; held = held v (omega arith) (omega arith); result = refl },
-  subst (PutsEach next n (v + 1) bs) (insert_again files n with_block _)
-      (PutsEach-with_blocks next n (v + 1) bs with_block (get-insert_here files n with_block)
+  subst (PutsEach next n (v + 1) bs) (insert-insert files n with_block _)
+      (PutsEach-with_blocks next n (v + 1) bs with_block (get-insert_same files n with_block)
       (λ q low high. is_some-insert file.body v b q (held q (omega arith) (omega arith)))),
 )
   where
@@ -126,7 +127,7 @@ PutsBlocks-Writes {old} {new} {name} {n} {v} {blocks} {file} named within writes
     apart = IsDistinct-range (λ at. not (holds file at)) v (length blocks);
     result = refl;
   };
-  puts = subst (PutsEach (insert old n zeros) n v blocks) same (PutsEach-with_blocks (insert old n zeros) n v blocks zeros (get-insert_here old n zeros) is_held);
+  puts = subst (PutsEach (insert old n zeros) n v blocks) same (PutsEach-with_blocks (insert old n zeros) n v blocks zeros (get-insert_same old n zeros) is_held);
 }
   where
     zeros : File
@@ -147,7 +148,7 @@ PutsBlocks-Writes {old} {new} {name} {n} {v} {blocks} {file} named within writes
 
     same : insert (insert old n zeros) n (record zeros { body = with_blocks zeros.body v blocks }) ≡ new
     same =
-        insert_again old n zeros (record zeros { body = with_blocks zeros.body v blocks })
+        insert-insert old n zeros (record zeros { body = with_blocks zeros.body v blocks })
         ∙ ap (λ body. insert old n (record file { body = body })) (with_blocks_agree blocks v zeros.body file.body outside)
         ∙ ap (λ f. insert old n (record f { body = with_blocks f.body v blocks })) same_file
         ∙ sym writes.result

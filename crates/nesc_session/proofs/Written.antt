@@ -1,16 +1,17 @@
 -- Blocks of a file are written, one after another.
-use Rattle.std.proofs.Common.{◌≡◌, ℕ, suc, ◌+◌, ◌≤◌, Bool, true, false, cond, ◌&&◌, eqb, List, [], ◌∷◌, ◌++◌, length, take, Option, None, Some, IsSome, is_some, slice_get, refl, sym, ap, subst, ◌∙◌, add-zero, arith}
+use Rattle.std.proofs.Common.{◌≡◌, ℕ, suc, ◌+◌, Bool, true, false, cond, ◌&&◌, eqb, List, [], ◌∷◌, ◌++◌, length, take, Option, None, Some, IsSome, is_some, slice_get, refl, sym, ap, subst, ◌∙◌, add-zero, arith}
 use Rattle.std.proofs.lemmas.Bool.{false≢true}
 use Rattle.std.proofs.lemmas.Bool.Decides.{nat_tests}
 use Rattle.std.proofs.lemmas.List.{take_more, length-take-le}
 use Rattle.std.proofs.lemmas.Option.{same_Some, slice_get_within, get_or_from_slice_get}
 use Rattle.std.specs.Option.{option_map}
-use Rattle.std.specs.Ordering.{nat_cmp, eq_by_cmp}
+use Rattle.std.specs.Ordering.{nat_cmp}
 use Rattle.std.specs.Cmp.{nat_cmp_total}
 use Rattle.std.specs.FinMap.{FinMap, get, insert, get-insert, nat_cmp-IsAntisymmetric, same_map}
 use Rattle.nesc_base.specs.declared.block.Block.{Block}
 use Rattle.nesc_base.specs.Files.{Body, File, Files}
-use Rattle.nesc_session.specs.declared.files.FileEntry.{FileEntry}
+use Rattle.nesc_base.proofs.Maps.{get-insert_same, insert-insert, insert_there}
+use Rattle.image_layout.specs.declared.table.TableEntry.{TableEntry}
 use Rattle.nesc_session.specs.declared.files.held.Place.{Place}
 use Rattle.nesc_session.specs.HeldBlocks.{place_cmp, is_same_place}
 use Rattle.nesc_session.specs.FilesInMemory.{FilesInMemory, entry_at, body_of, file_of, files_of, with_blocks, Writes}
@@ -19,39 +20,13 @@ use Rattle.nesc_session.proofs.Numbered.{place, get-body_of, get-files_of, get-n
 
 -- Maps from numbers
 
+-- numbers that the test finds equal are equal
 pub same_number : (m n : ℕ) → eqb m n ≡ true → m ≡ n
 same_number m n same = grind (arith, nat_tests)
 
-shadowed : {A : Type 0} (b : Bool) (x y z : A) → cond b y (cond b x z) ≡ cond b y z
-shadowed true x y z = refl
-shadowed false x y z = refl
-
-module _ {A : Type 0} (m : FinMap nat_cmp A) (n : ℕ) where
-  -- what is at a number after one is put into the map
-  pub get-insert_at : (x : A) (q : ℕ) → get (insert m n x) q ≡ cond (eqb q n) (Some x) (get m q)
-  get-insert_at x q = get-insert nat_cmp_total m n x q ∙ ap (λ b. cond b (Some x) (get m q)) (eq_by_cmp-nat_cmp q n)
-
-  pub get-insert_here : (x : A) → get (insert m n x) n ≡ Some x
-  get-insert_here x = get-insert_at x n ∙ ap (λ b. cond b (Some x) (get m n)) (eqb_itself n)
-
-  -- to put what is there changes nothing
-  pub insert_same : (x : A) → get m n ≡ Some x → insert m n x ≡ m
-  insert_same x is = same_map nat_cmp_total nat_cmp-IsAntisymmetric _ _ (λ q. get-insert_at x q ∙ at q (eqb q n) refl)
-    where
-      at : (q : ℕ) (b : Bool) → eqb q n ≡ b → cond b (Some x) (get m q) ≡ get m q
-      at q true e = sym is ∙ ap (get m) (sym (same_number q n e))
-      at q false e = refl
-
-  -- the last that is put at a number stays
-  pub insert_again : (x y : A) → insert (insert m n x) n y ≡ insert m n y
-  insert_again x y = same_map nat_cmp_total nat_cmp-IsAntisymmetric _ _ again
-    where
-      again : (q : ℕ) → get (insert (insert m n x) n y) q ≡ get (insert m n y) q
-      again q =
-          get-insert nat_cmp_total (insert m n x) n y q
-          ∙ ap (cond (eq_by_cmp nat_cmp q n) (Some y)) (get-insert nat_cmp_total m n x q)
-          ∙ shadowed (eq_by_cmp nat_cmp q n) (Some x) (Some y) (get m q)
-          ∙ sym (get-insert nat_cmp_total m n y q)
+-- what is at a number after one is put into the map
+pub get-insert_at : {A : Type 0} (m : FinMap nat_cmp A) (n : ℕ) (x : A) (q : ℕ) → get (insert m n x) q ≡ cond (eqb q n) (Some x) (get m q)
+get-insert_at m n x q = get-insert nat_cmp_total m n x q ∙ ap (λ b. cond b (Some x) (get m q)) (eq_by_cmp-nat_cmp q n)
 
 -- A block is written
 
@@ -71,27 +46,27 @@ module _ (blocks : FinMap place_cmp Block) (n v : ℕ) (block : Block) where
       ∙ sym (get-body_of blocks m q))
 
   -- the block changes its own file's body and nothing else
-  files_of-insert : (es : List FileEntry) (e : FileEntry) → entry_at es n ≡ Some e → files_of es (insert blocks (place n v) block) ≡ insert (files_of es blocks) n (record { name = e.name; length = e.length; body = insert (body_of blocks n) v block })
+  files_of-insert : (es : List (Option TableEntry)) (e : TableEntry) → entry_at es n ≡ Some e → files_of es (insert blocks (place n v) block) ≡ insert (files_of es blocks) n (record { name = e.name; length = e.length; body = insert (body_of blocks n) v block })
   files_of-insert es e is = same_map nat_cmp_total nat_cmp-IsAntisymmetric _ _ (λ q. get-files_of _ es q ∙ at q (eqb q n) refl ∙ sym (get-insert_at (files_of es blocks) n _ q))
     where
       at : (q : ℕ) (b : Bool) → eqb q n ≡ b → option_map (file_of (insert blocks (place n v) block) q) (entry_at es q) ≡ cond b (Some (record { name = e.name; length = e.length; body = insert (body_of blocks n) v block })) (get (files_of es blocks) q)
       at q true same = subst (λ m. option_map (file_of (insert blocks (place n v) block) m) (entry_at es m) ≡ Some (record { name = e.name; length = e.length; body = insert (body_of blocks n) v block })) (sym (same_number q n same)) (ap (option_map (file_of (insert blocks (place n v) block) n)) is ∙ ap (λ body. Some (record { name = e.name; length = e.length; body = body })) body_of-insert_here)
       at q false apart = ap (λ body. option_map (λ entry. record { name = entry.name; length = entry.length; body = body }) (entry_at es q)) (body_of-insert_other q apart) ∙ sym (get-files_of blocks es q)
 
-module _ (blocks : FinMap place_cmp Block) (es : List FileEntry) (n v : ℕ) (block : Block) where
+module _ (blocks : FinMap place_cmp Block) (es : List (Option TableEntry)) (n v : ℕ) (block : Block) where
   -- each block that is held is still of one of the files
-  pub filed-insert : ((p : Place) → IsSome (get blocks p) → (1 ≤ p.file.0) × (p.file.0 ≤ length es)) → (1 ≤ n) × (n ≤ length es) → (p : Place) → IsSome (get (insert blocks (place n v) block) p) → (1 ≤ p.file.0) × (p.file.0 ≤ length es)
+  pub filed-insert : ((p : Place) → IsSome (get blocks p) → IsSome (entry_at es p.file.0)) → IsSome (entry_at es n) → (p : Place) → IsSome (get (insert blocks (place n v) block) p) → IsSome (entry_at es p.file.0)
   filed-insert filed within p some = at (is_same_place p (place n v)) refl (ap is_some (sym (get-insert place_cmp_total blocks (place n v) block p ∙ ap (λ b. cond b (Some block) (get blocks p)) (eq_by_cmp-place_cmp p (place n v)))) ∙ some)
     where
-      at : (b : Bool) → is_same_place p (place n v) ≡ b → is_some (cond b (Some block) (get blocks p)) ≡ true → (1 ≤ p.file.0) × (p.file.0 ≤ length es)
-      at true same some = subst (λ q. (1 ≤ q.file.0) × (q.file.0 ≤ length es)) (sym (same_place p (place n v) same)) within
+      at : (b : Bool) → is_same_place p (place n v) ≡ b → is_some (cond b (Some block) (get blocks p)) ≡ true → IsSome (entry_at es p.file.0)
+      at true same some = subst (λ q. IsSome (entry_at es q.file.0)) (sym (same_place p (place n v) same)) within
       at false apart some = filed p some
 
   -- the block is the file's
   pub Writes-insert : {now : FilesInMemory} {room : ℕ} → record { files = files_of es blocks; room = room } ≡ now → IsSome (get now.files n) → Writes now.files n v (block ∷ []) (files_of es (insert blocks (place n v) block))
   Writes-insert {now = now} view stands = at (entry_at es n) refl (ap is_some (sym (get-now blocks es view n)) ∙ stands)
     where
-      at : (o : Option FileEntry) → entry_at es n ≡ o → is_some (option_map (file_of blocks n) o) ≡ true → Writes now.files n v (block ∷ []) (files_of es (insert blocks (place n v) block))
+      at : (o : Option TableEntry) → entry_at es n ≡ o → is_some (option_map (file_of blocks n) o) ≡ true → Writes now.files n v (block ∷ []) (files_of es (insert blocks (place n v) block))
       at None e some = absurd (false≢true some)
       at (Some entry) e some = record {
         file = file_of blocks n entry;
@@ -114,7 +89,7 @@ Writes-none files n v stands = at (get files n) refl stands
   where
     at : (o : Option File) → get files n ≡ o → is_some o ≡ true → Writes files n v [] files
     at None e some = absurd (false≢true some)
-    at (Some file) e some = record { file = file; stands = e; result = sym (insert_same files n file e) }
+    at (Some file) e some = record { file = file; stands = e; result = sym (insert_there files n file e) }
 
 -- one more block is written behind the others
 pub Writes-push : {old mid new : Files} {n v : ℕ} {blocks : List Block} {block : Block} → Writes old n v blocks mid → (at : ℕ) → v + length blocks ≡ at → Writes mid n at (block ∷ []) new → Writes old n v (blocks ++ block ∷ []) new
@@ -124,7 +99,7 @@ Writes-push {old} {mid} {new} {n} {v} {blocks} {block} before at is then = recor
   result =
       then.result
       ∙ (λ i. insert (before.result i) n (record (same i) { body = insert (same i).body at block }))
-      ∙ insert_again old n so_far _
+      ∙ insert-insert old n so_far _
       ∙ ap (λ body. insert old n (record before.file { body = body })) (ap (λ k. insert (with_blocks before.file.body v blocks) k block) (sym is) ∙ sym (with_blocks-push before.file.body v blocks block));
 }
   where
@@ -132,11 +107,11 @@ Writes-push {old} {mid} {new} {n} {v} {blocks} {block} before at is then = recor
     so_far = record before.file { body = with_blocks before.file.body v blocks }
 
     same : then.file ≡ so_far
-    same = same_Some _ _ (sym then.stands ∙ ap (λ m. get m n) before.result ∙ get-insert_here old n so_far)
+    same = same_Some _ _ (sym then.stands ∙ ap (λ m. get m n) before.result ∙ get-insert_same old n so_far)
 
 -- the file still stands
 pub stands-Writes : {old new : Files} {n v : ℕ} {blocks : List Block} → Writes old n v blocks new → IsSome (get new n)
-stands-Writes {old} {new} {n} writes = ap is_some (ap (λ m. get m n) writes.result ∙ get-insert_here old n _)
+stands-Writes {old} {new} {n} writes = ap is_some (ap (λ m. get m n) writes.result ∙ get-insert_same old n _)
 
 -- the next block of a list is written
 pub Writes-more : {old mid new : Files} {n v : ℕ} (blocks : List Block) (k : ℕ) {block : Block} → Writes old n v (take k blocks) mid → slice_get blocks k ≡ Some block → Writes mid n (v + k) (block ∷ []) new → Writes old n v (take (k + 1) blocks) new

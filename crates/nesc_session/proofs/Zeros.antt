@@ -6,7 +6,8 @@ use Rattle.std.specs.FinMap.{get, insert, contains_key, empty}
 use Rattle.nesc_base.specs.Block.{zero_block}
 use Rattle.nesc_base.specs.Files.{Body, File, Files, file_at}
 use Rattle.file_model.specs.Files.{Holds, holds, with_zeros}
-use Rattle.nesc_session.proofs.Written.{get-insert_at, get-insert_here}
+use Rattle.nesc_base.proofs.Maps.{get-insert_same}
+use Rattle.nesc_session.proofs.Written.{get-insert_at}
 
 some_kept : {A : Type 0} (b : Bool) (x : A) (o : Option A) → is_some o ≡ true → is_some (cond b (Some x) o) ≡ true
 some_kept true x o some = refl
@@ -23,7 +24,7 @@ zeros_keep body (v ∷ blocks) k some = zeros_keep (insert body v zero_block) bl
 zeros_one : (body : Body) (a : ℕ) (rest : List ℕ) (k : ℕ) (b : Bool) → (k ≡ a → b ≡ true) → (k ≢ a → (other : Body) → contains_key (with_zeros other rest) k ≡ true)
     → contains_key (with_zeros body (cond b (a ∷ rest) rest)) k ≡ true
 zeros_one body a rest k true here later =
-    ⊎_elim (λ (e : k ≡ a). zeros_keep (insert body a zero_block) rest k (ap (contains_key (insert body a zero_block)) e ∙ ap is_some (get-insert_here body a zero_block)))
+    ⊎_elim (λ (e : k ≡ a). zeros_keep (insert body a zero_block) rest k (ap (contains_key (insert body a zero_block)) e ∙ ap is_some (get-insert_same body a zero_block)))
     (λ (apart : k ≢ a). later apart (insert body a zero_block)) (cases_eq k a)
 zeros_one body a rest k false here later =
     ⊎_elim (λ (e : k ≡ a). absurd (false≢true (here e))) (λ (apart : k ≢ a). later apart body) (cases_eq k a)
@@ -41,5 +42,5 @@ pub holds-Holds : (old new : Files) (n : ℕ) (blocks : List ℕ) (k : ℕ) → 
 holds-Holds old new n blocks k is =
     let none : File = record { name = []; length = 0; body = empty } in
     let after : File = record is.file { body = with_zeros is.file.body blocks } in
-    ap (λ (o : Option File). contains_key (unwrap_or o none).body k) (ap (λ (files : Files). get files n) is.result ∙ get-insert_here old n after)
+    ap (λ (o : Option File). contains_key (unwrap_or o none).body k) (ap (λ (files : Files). get files n) is.result ∙ get-insert_same old n after)
     ∙ ap (λ (o : Option File). contains_key (with_zeros (unwrap_or o none).body blocks) k) (sym is.stands)

@@ -1,15 +1,18 @@
 -- The files that are kept in memory, as the files that they are.
-use Rattle.std.specs.Prelude.{◌≡◌, ℕ, zero, suc, ◌+◌, ◌≤◌, ◌==◌, List, [], ◌∷◌, length, slice_get, Option, None, Some, IsSome, if◌then◌else◌, refl}
+use Rattle.std.specs.Prelude.{◌≡◌, ℕ, ◌+◌, ◌≤◌, ◌==◌, Bool, false, List, [], ◌∷◌, length, Option, None, Some, IsSome, unwrap_or, if◌then◌else◌, refl}
 use Rattle.std.specs.Coded.{Coded, code_by, coded×, coded_list, coded_ℕ}
+use Rattle.std.specs.Str.{bytes_eq}
 use Rattle.std.specs.FinMap as map
 use Rattle.std.specs.FinMap.{FinMap, entries, from_entries, get, insert}
 use Rattle.nesc_base.specs.declared.block.Block.{Block}
 use Rattle.nesc_base.specs.declared.host.HostAnswer.{HostAnswer}
 use Rattle.nesc_base.specs.declared.host.HostAnswer.TheVariants.{NoFile, Range}
 use Rattle.nesc_base.specs.Files.{Body, File, Files, most_files}
+use Rattle.nesc_base.specs.Numbered.{map_from}
+use Rattle.nesc_base.specs.Script.{numbered}
+use Rattle.image_layout.specs.declared.table.TableEntry.{TableEntry}
 use Rattle.file_model.specs.Files.{HasName, IsUnnamed}
 use Rattle.file_model.specs.HostCommands.{IsOutside}
-use Rattle.nesc_session.specs.declared.files.FileEntry.{FileEntry}
 use Rattle.nesc_session.specs.declared.files.held.Place.{Place}
 use Rattle.nesc_session.specs.HeldBlocks.{place_cmp, block_code}
 
@@ -37,27 +40,25 @@ abbrev pub body_of : FinMap place_cmp Block → ℕ → Body
 body_of blocks n = from_entries (entries_in n (entries blocks))
 
 -- the file with a number
-abbrev pub file_of : FinMap place_cmp Block → ℕ → FileEntry → File
+abbrev pub file_of : FinMap place_cmp Block → ℕ → TableEntry → File
 file_of blocks n entry = record { name = entry.name; length = entry.length; body = body_of blocks n }
 
--- the entry of the file with a number, the first of which is 1
-abbrev pub entry_at : List FileEntry → ℕ → Option FileEntry
-entry_at es zero = None
-entry_at es (suc k) = slice_get es k
+-- the entry of the file with a number, the first of which is 1, if there is such a file
+abbrev pub entry_at : List (Option TableEntry) → ℕ → Option TableEntry
+entry_at entries n = unwrap_or (numbered entries n) None
 
--- the files, numbered in their order from n on
-abbrev pub numbered_from : FinMap place_cmp Block → ℕ → List FileEntry → List (ℕ × File)
-numbered_from blocks n [] = []
-numbered_from blocks n (e ∷ es) = (n, file_of blocks n e) ∷ numbered_from blocks (n + 1) es
+abbrev pub files_of : List (Option TableEntry) → FinMap place_cmp Block → Files
+files_of entries blocks = map_from (file_of blocks) 1 entries
 
-abbrev pub files_of : List FileEntry → FinMap place_cmp Block → Files
-files_of es blocks = from_entries (numbered_from blocks 1 es)
+-- it is the entry of a file of this name
+abbrev pub has_name : List ℕ → Option TableEntry → Bool
+has_name name None = false
+has_name name (Some entry) = bytes_eq entry.name name
 
--- there are no more files than there may be, nor more than fit, and each block that is held is of one of them
-pub record IsInOrder (files : List FileEntry) (capacity : ℕ) (blocks : FinMap place_cmp Block) : Type 0 where
-  pub few : length files ≤ most_files
-  pub fits : most_files ≤ capacity
-  pub filed : (p : Place) → IsSome (get blocks p) → (1 ≤ p.file.0) × (p.file.0 ≤ length files)
+-- there is an entry for each file that there may be, and each block that is held is of one of the files
+pub record IsInOrder (entries : List (Option TableEntry)) (blocks : FinMap place_cmp Block) : Type 0 where
+  pub count : length entries ≡ most_files
+  pub filed : (p : Place) → IsSome (get blocks p) → IsSome (entry_at entries p.file.0)
 
 -- the file of the number has the name, and all its n blocks from v on lie below its length
 pub record IsInside (files : Files) (name : List ℕ) (number v n : ℕ) : Type 0 where

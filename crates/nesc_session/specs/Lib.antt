@@ -1,6 +1,7 @@
 pub mod FilesInMemory
 pub mod FunctionInMemory
 pub mod HeldBlocks
+pub mod Opening
 pub mod Outcome
 pub mod Room
 pub mod Serving

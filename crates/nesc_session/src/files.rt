@@ -1,86 +1,87 @@
 //! The files, kept in memory.
-ghost use Rattle.std.specs.Prelude.{◌≡◌, ◌+◌, ◌<◌, ◌≤◌, IfOk, IfErr, OnOk, IsSome, IsTrue, IsFalse, MatchOption, [], ◌∷◌, ◌^◌, length, position, nat_le, not, false, if◌then◌else◌};
+ghost use Rattle.std.specs.Prelude.{◌≡◌, ◌+◌, ◌<◌, ◌≤◌, IfOk, IfErr, OnOk, IsSome, IsTrue, IsFalse, MatchOption, [], ◌∷◌, ◌^◌, length, is_none, position, nat_le, not, false, if◌then◌else◌};
 ghost use Rattle.std.specs.Option.{option_copied};
 ghost use Rattle.std.specs.FinMap.{empty, get};
-ghost use Rattle.std.specs.Str.{bytes_eq};
-ghost use Rattle.nesc_base.specs.Files.{File, file_at};
+ghost use Rattle.nesc_base.specs.Files.{File, file_at, most_files};
 ghost use Rattle.file_model.specs.Files.{Changes, HasName, IsUnnamed, holds, put, read_from};
 ghost use Rattle.file_model.specs.Handlings.{HoldsAll, wanted};
 ghost use Rattle.nesc_base.specs.declared.request.Kind.TheVariants.{Unmapped};
 ghost use Rattle.nesc_session.specs.Room.{KeepsHeld};
 ghost use Rattle.file_model.specs.HostCommands.{FileStep};
 ghost use Rattle.nesc_base.specs.Block.{zero_block};
-ghost use Rattle.nesc_session.specs.FilesInMemory.{IsInside, Refuses, Writes, entry_at};
+ghost use Rattle.nesc_session.specs.FilesInMemory.{IsInside, Refuses, Writes, entry_at, files_of, has_name};
 
 mod held;
 
 use held::{HeldBlocks, Place};
+use image_layout::{Table, TableEntry};
 use nesc_base::{Block, Blocks, FileNo, HostAnswer, HostCommand, Name, NoMemory};
 use std::alloc::Global;
 use std::marker::Model;
 
-/// How many files there may be.
-pub(crate) const MOST_FILES: usize = 32;
-
-// What a file is, but for its blocks.
-#[derive(Drop)]
-struct FileEntry {
-    name: Name,
-    length: u32,
-}
-
-/// All files, numbered from 1 in the order in which they were made.
+/// All files, those of one table.
 #[derive(Drop)]
 pub(crate) struct Files {
-    // the file of a number is at the index below it
-    entries: Vec<FileEntry>,
+    table: Table,
     held: HeldBlocks,
 }
 
 impl Model for Files {
-    ghost use Rattle.std.specs.Prelude.{vec_capacity};
     ghost use Rattle.nesc_session.specs.FilesInMemory.{FilesInMemory, files_code, files_of, IsInOrder};
 
     ghost Value = { FilesInMemory };
 
     ghost coded = { files_code };
 
-    ghost view = { λ f. record { files = files_of f.entries.items f.held.blocks; room = f.held.room } };
+    ghost view = { λ f. record { files = files_of f.table f.held.blocks; room = f.held.room } };
 
-    ghost invariant = { λ f. IsInOrder f.entries.items (vec_capacity f.entries) f.held.blocks };
+    ghost invariant = { λ f. IsInOrder f.table f.held.blocks };
 }
 
-impl FileEntry {
-    fn is_named(&self, name: &Name) -> bool
-        ensures { result ≡ bytes_eq self.now.name name.now }
-    {
-        self.name.bytes() == name.bytes()
+// Whether it is the entry of a file of this name.
+fn has_name(entry: &Option<TableEntry>, name: &Name) -> bool
+    ensures { result ≡ has_name name.now entry.now }
+{
+    match entry {
+        Some(entry) => entry.name.bytes() == name.bytes(),
+        None => false,
     }
 }
 
 // At which index the first entry of a name is.
-fn index_of(entries: &[FileEntry], name: &Name) -> Option<usize>
-    ensures { result ≡ position (λ entry. bytes_eq entry.name name.now) entries.now }
+fn index_of(table: &Table, name: &Name) -> Option<usize>
+    ensures { result ≡ position (has_name name.now) table.now }
 {
-    entries.iter().position(|entry| entry.is_named(name))
+    table
+        .entries()
+        .iter()
+        .position(|entry| has_name(entry, name))
+}
+
+// At which index the first entry is that is not used.
+fn first_unused(table: &Table) -> Option<usize>
+    ensures { result ≡ position is_none table.now }
+{
+    table.entries().iter().position(|entry| entry.is_none())
 }
 
 // The entry of the file with a number, if there is one.
-fn entry_of(entries: &[FileEntry], file: FileNo) -> Option<&FileEntry>
-    ensures { option_copied result ≡ entry_at entries.now file.0 }
+fn entry_of(table: &Table, file: FileNo) -> Option<TableEntry>
+    ensures { result ≡ entry_at table.now file.0 }
 {
-    entries.get(usize::from(file.0).checked_sub(1)?)
+    *table.entries().get(usize::from(file.0).checked_sub(1)?)?
 }
 
 impl Files {
-    /// No files, with the memory for so many held blocks over all of them. An `Err` says that there is no memory
-    /// for them. No other call takes any.
-    pub fn new(alloc: Global, room: u32) -> Result<Files, NoMemory>
-        ensures empty { IfOk result (λ files. files.files ≡ empty) }
+    /// The files of a table, which hold no block yet, with the memory for so many held blocks over all of them. An
+    /// `Err` says that there is no memory for them. No other call takes any.
+    pub fn new(alloc: Global, table: Table, room: u32) -> Result<Files, NoMemory>
+        requires { length table ≡ most_files }
+        ensures files { IfOk result (λ files. files.files ≡ files_of table empty) }
         ensures room { IfOk result (λ files. files.room ≡ room) }
     {
         Ok(Files {
-            entries: Vec::with_capacity(alloc, MOST_FILES)?,
+            table,
             held: HeldBlocks::new(alloc, room)?,
         })
     }
@@ -90,7 +91,7 @@ impl Files {
         ensures { MatchOption result (IsUnnamed self.now.files name.now)
             (λ n. (file : File) × HasName self.now.files name.now n.0 file) }
     {
-        let index = index_of(&self.entries, name)?;
+        let index = index_of(&self.table, name)?;
         Some(FileNo(index as u16 + 1))
     }
 
@@ -98,7 +99,7 @@ impl Files {
     pub fn length(&self, file: FileNo) -> u32
         ensures { result ≡ (file_at self.now.files file.0).length }
     {
-        match entry_of(&self.entries, file) {
+        match entry_of(&self.table, file) {
             Some(entry) => entry.length,
             None => 0,
         }
@@ -166,15 +167,15 @@ impl Files {
         if self.find(&name).is_some() {
             return HostAnswer::Exists;
         }
-        if self.entries.len() == MOST_FILES {
+        let Some(e) = first_unused(&self.table) else {
             return HostAnswer::NoSlot;
-        }
-        self.entries.push_reserved(FileEntry { name, length });
+        };
+        self.table.set(e as u32, Some(TableEntry { name, length }));
         HostAnswer::Ok
     }
 
-    // Writes a file's block `v`, whether the file held one there or not.
-    fn write(&mut self, file: FileNo, v: u32, block: &Block)
+    /// Writes a file's block `v`, whether the file held one there or not.
+    pub fn write(&mut self, file: FileNo, v: u32, block: &Block)
         requires stands { IsSome (get self.old.files file.0) }
         requires room { 0 < self.old.room }
         ensures blocks { Writes self.old.files file.0 v (block.now ∷ []) self.new.files }
@@ -270,7 +271,7 @@ mod tests {
     #[test]
     fn keeps_blocks(rt: HostRuntime) -> Result<(), Fail> {
         let alloc = rt.alloc();
-        let mut files = Files::new(alloc, 6)?;
+        let mut files = Files::new(alloc, Table::empty(), 6)?;
 
         let name = Name::read(b"disk").ok_or("a name")?;
         let made = files.create(name, 4);

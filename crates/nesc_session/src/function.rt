@@ -222,6 +222,7 @@ fn reply(f: FnNo, queued: Queued, end: End, done: u32) -> Reply
 #[cfg(test)]
 mod tests {
     use super::*;
+    use image_layout::Table;
     use nesc_base::{Blocks, Name};
     use std::test::Fail;
 
@@ -229,7 +230,7 @@ mod tests {
     #[test]
     fn answers_a_write(rt: HostRuntime) -> Result<(), Fail> {
         let alloc = rt.alloc();
-        let mut files = Files::new(alloc, 1)?;
+        let mut files = Files::new(alloc, Table::empty(), 1)?;
         let name = Name::read(b"disk").ok_or("a name")?;
         let _ = files.create(name, 3);
 

@@ -4,6 +4,7 @@
 mod files;
 mod function;
 mod functions;
+mod opening;
 mod outcome;
 mod session;
 

@@ -1,4 +1,7 @@
-ghost use Rattle.std.specs.Prelude.{◌≡◌, ◌≤◌, IfOk};
+ghost use Rattle.std.specs.Prelude.{◌≡◌, ◌≤◌, IfOk, IsErrOf, true};
+ghost use Rattle.nesc_base.specs.Disk.{Goes, Unchanged};
+ghost use Rattle.nesc_base.specs.Fault.{HasCause};
+ghost use Rattle.nesc_base.specs.Files as plain;
 ghost use Rattle.file_model.specs.Handlings.{Handles};
 ghost use Rattle.file_model.specs.HostCommands.{AttachStep, HostStep};
 ghost use Rattle.file_model.specs.Machine.{HostTurn, Step};
@@ -6,6 +9,9 @@ ghost use Rattle.file_model.specs.Misses.{MissLaw};
 ghost use Rattle.file_model.specs.State.{start};
 ghost use Rattle.file_model.specs.Submissions.{Submits};
 ghost use Rattle.file_model.specs.Ticks.{Ticks};
+ghost use Rattle.image_layout.specs.declared.fault.ImageFault.{ImageFault};
+ghost use Rattle.image_layout.specs.declared.fault.OpenFault.TheVariants.{Disk, Image};
+ghost use Rattle.image_opening.specs.Parts.{IsTurnedDown, OpensAsItIs};
 ghost use Rattle.script_lang.specs.CommandsText.{blocks_in_all};
 ghost use Rattle.script_lang.specs.Limits.{most_blocks, most_queued};
 ghost use Rattle.nesc_session.specs.Outcome.{lines_of};
@@ -16,8 +22,10 @@ use crate::Outcome;
 use crate::files::Files;
 use crate::function::Function;
 use crate::functions::{index_of, is_taken, new_functions, next_index};
+use crate::opening::open_files;
 use file_model::{Handled, Line, Submission};
-use nesc_base::{FnNo, HostAnswer, HostCommand, Name, NoMemory, Word};
+use image_layout::OpenFault;
+use nesc_base::{Disk, FnNo, HostAnswer, HostCommand, Name, Word};
 use script_lang::Commands;
 use std::alloc::Global;
 
@@ -32,15 +40,27 @@ pub struct Session {
 }
 
 impl Session {
-    /// No files, one function for each guest, all of them off, and all commands left. An `Err` says that there is no
-    /// memory for the blocks that they name and the requests that may wait.
-    pub fn new(alloc: Global, commands: Commands) -> Result<Session, NoMemory>
+    /// The files as which the image on the disk opens, one function for each guest, all of them off, and all commands
+    /// left. An `Err` says why the image was not opened, by the first cause, or that there is no memory: for its held
+    /// blocks, for those that the commands name, and for the requests that may wait. Of the disk each block is read
+    /// once at most, and none is written.
+    pub fn begin<D: Disk>(
+        alloc: Global,
+        disk: &mut D,
+        commands: Commands,
+    ) -> Result<Session, OpenFault>
         requires { blocks_in_all commands ≤ most_blocks }
-        ensures start { IfOk result (λ session. state_of session ≡ start most_queued commands) }
+        ensures start { IfOk result (λ session. state_of session.files.files session ≡ start session.files.files most_queued commands) }
         ensures ready { IfOk result IsReady }
+        ensures opens { (D.known disk.old).tells ≡ true → IfOk result (λ session. OpensAsItIs (D.known disk.old).contents session.files.files) }
+        ensures refused { (D.known disk.old).tells ≡ true → (fault : ImageFault) → IsErrOf result (Image fault) → IsTurnedDown (D.known disk.old).contents fault }
+        ensures cause { HasCause (D.known disk.old).faults (D.known disk.new).faults (IsErrOf result (Disk _)) }
+        ensures unchanged { Unchanged (D.known disk.old) (D.known disk.new) }
+        ensures goes { Goes (D.known disk.old) (D.known disk.new) }
+        ensures keeps { D.keeps disk.old disk.new }
     {
-        let room = commands.blocks() as u32;
-        let files = Files::new(alloc, room)?;
+        let more = commands.blocks() as u32;
+        let files = open_files(alloc, disk, more)?;
         let functions = new_functions(alloc, commands.guests())?;
         Ok(Session {
             files,
@@ -53,7 +73,7 @@ impl Session {
     /// Takes one step, and tells what happened.
     pub fn step(&mut self, word: Word) -> Outcome
         requires { IsReady self.old }
-        ensures step { Step (state_of self.old) word (lines_of result) (state_of self.new) }
+        ensures step { (kept : plain.Files) → Step (state_of kept self.old) word (lines_of result) (state_of kept self.new) }
         ensures ready { IsReady self.new }
     {
         match word {
@@ -73,8 +93,8 @@ impl Session {
     // The device serves the next function, if one is runnable.
     fn tick(&mut self) -> Outcome
         requires { IsReady self.old }
-        ensures step { Ticks (state_of self.old) (lines_of result) (state_of self.new) }
-        ensures law { MissLaw (state_of self.old) (lines_of result) }
+        ensures step { (kept : plain.Files) → Ticks (state_of kept self.old) (lines_of result) (state_of kept self.new) }
+        ensures law { (kept : plain.Files) → MissLaw (state_of kept self.old) (lines_of result) }
         ensures ready { IsReady self.new }
     {
         let Some(index) = next_index(&self.functions, self.last) else {
@@ -88,7 +108,7 @@ impl Session {
     // A guest gives its next request.
     fn submit(&mut self, f: FnNo) -> Submission
         requires { IsReady self.old }
-        ensures step { Submits (state_of self.old) f.0 result (state_of self.new) }
+        ensures step { (kept : plain.Files) → Submits (state_of kept self.old) f.0 result (state_of kept self.new) }
         ensures ready { IsReady self.new }
     {
         if !self.commands.has_next(f) {
@@ -112,7 +132,7 @@ impl Session {
     // The host gives its next command.
     fn host_turn(&mut self) -> Line
         requires { IsReady self.old }
-        ensures step { HostTurn (state_of self.old).script.host (state_of self.old) result (state_of self.new) }
+        ensures step { (kept : plain.Files) → HostTurn (state_of kept self.old).script.host (state_of kept self.old) result (state_of kept self.new) }
         ensures ready { IsReady self.new }
     {
         match self.commands.take_host() {
@@ -124,7 +144,7 @@ impl Session {
     // Does what the host asks for, if it can.
     fn answer(&mut self, command: HostCommand) -> HostAnswer
         requires { IsReadyFor (room_for command) self.old }
-        ensures step { HostStep (state_of self.old) command result (state_of self.new) }
+        ensures step { (kept : plain.Files) → HostStep (state_of kept self.old) command result (state_of kept self.new) }
         ensures ready { IsReady self.new }
     {
         match command {
@@ -138,7 +158,7 @@ impl Session {
     // Gives a function a file, if it can.
     fn attach(&mut self, f: FnNo, name: &Name) -> HostAnswer
         requires { IsReady self.old }
-        ensures step { AttachStep (state_of self.old) f.0 name.now result (state_of self.new) }
+        ensures step { (kept : plain.Files) → AttachStep (state_of kept self.old) f.0 name.now result (state_of kept self.new) }
         ensures ready { IsReady self.new }
     {
         let Some(file) = self.files.find(name) else {
@@ -160,7 +180,7 @@ impl Session {
     // The host holds what a function waits for.
     fn handle(&mut self, f: FnNo) -> Handled
         requires { IsReady self.old }
-        ensures step { Handles (state_of self.old) f.0 result (state_of self.new) }
+        ensures step { (kept : plain.Files) → Handles (state_of kept self.old) f.0 result (state_of kept self.new) }
         ensures ready { IsReady self.new }
     {
         match index_of(&self.functions, f) {

@@ -1,4 +1,4 @@
-use Rattle.std.proofs.Common.{◌≡◌, ℕ, ◌+◌, ◌*◌, ◌<◌, [], Err, List, Option, ◌++◌, inl, inr, length, take, drop, get_or, subst, sym, ap, ◌∙◌, arith, length-append, length-drop, rules}
+use Rattle.std.proofs.Common.{◌≡◌, ℕ, ◌+◌, ◌*◌, ◌<◌, [], Err, List, Option, length, take, drop, get_or, subst, sym, ap, ◌∙◌, arith, length-append, rules}
 use Rattle.nesc_base.specs.Geometry.{map_at}
 use Rattle.image_layout.specs.declared.fault.ImageFault.TheVariants.{BadOwner}
 use Rattle.image_layout.specs.declared.fault.OpenFault.TheVariants.{Image}

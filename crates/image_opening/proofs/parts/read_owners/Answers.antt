@@ -5,13 +5,13 @@ use Rattle.nesc_base.specs.Geometry.{map_at}
 use Rattle.nesc_base.proofs.DiskCalls.{goes_on, unchanged_on}
 use Rattle.image_layout.specs.declared.fault.ImageFault.TheVariants.{BadOwner}
 use Rattle.image_layout.specs.declared.fault.OpenFault.TheVariants.{Image}
-use Rattle.image_layout.specs.Opens.{IsMapBlock}
+use Rattle.image_layout.specs.Opens.{IsMapBlock, lengths_of}
 use Rattle.image_layout.specs.Owners.{Owner}
 use Rattle.image_layout.specs.Refusal.{LacksOwners}
 use Rattle.image_layout.specs.Slots.{block_at}
 use Rattle.image_layout.proofs.MapBlocks.{each_more}
 use Rattle.image_opening.specs.Parts.{IsTurnedDown}
-use Rattle.image_opening.proofs.PartsLemmas.{block_here, lays_itself}
+use Rattle.image_opening.proofs.PartsLemmas.{MayOwnBlock, block_here, lays_itself, may_all}
 use Rattle.image_opening.proofs.parts.read_owners.Goals as goal
 
 pub returns-in_err-found-clause-refused : goal.returns-in_err-found-clause-refused
@@ -55,6 +55,8 @@ loop-b-preserved g c =
     let put = c.in_ok-push_owners.ensures in
     record {
       count = ap length put ∙ omega (arith, length-append c.loop-b.owners.items found, c.loop-b.invariant.count, are.count);
+      may_own = λ b below. subst (λ (owners : List (Option Owner)). MayOwnBlock (lengths_of c.args.table.now) c.args.geometry.blocks b (take 128 (drop (128 * b) owners))) (sym put)
+          (each_more (MayOwnBlock (lengths_of c.args.table.now) c.args.geometry.blocks) c.loop-b.b c.loop-b.owners.items found c.loop-b.invariant.count are.count c.loop-b.invariant.may_own (rw c.lengths_of-lengths.ensures at are.good) b below);
       each = λ tells.
           let read : c.in_ok-map_block.map_block ≡ block_at image (map_at c.args.geometry + c.loop-b.b) =
           block_here old now c.in_ok-map_block.map_block place (map_at c.args.geometry + c.loop-b.b) tells
@@ -67,3 +69,9 @@ loop-b-preserved g c =
       goes = goes_on old now new c.loop-b.invariant.goes c.read_block.ensures.goes;
       keeps = g.met.D.Disk.keeps_on _ _ _ c.loop-b.invariant.keeps c.read_block.ensures.keeps;
     }
+
+pub returns-clause-owners : goal.returns-clause-owners
+returns-clause-owners g c = record {
+  count = omega (arith, c.loop-b.invariant.count);
+  each = may_all (lengths_of c.args.table.now) c.args.geometry.blocks c.loop-b.b c.loop-b.owners.items c.loop-b.invariant.count c.loop-b.invariant.may_own;
+}

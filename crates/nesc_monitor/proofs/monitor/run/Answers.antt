@@ -1,6 +1,6 @@
 use Rattle.std.proofs.Common.{◌∙◌, sym}
 use Rattle.text_kit.proofs.WritesLemmas.{Writes-whole}
-use Rattle.nesc_monitor.proofs.EndingLemmas.{Comes-complete, Comes-device, Comes-done, Comes-early, Comes-made, Comes-made_complete, Comes-read, Comes-refused, Comes-small, Comes-words, Comes-write}
+use Rattle.nesc_monitor.proofs.EndingLemmas.{Comes-complete, Comes-device, Comes-done, Comes-early, Comes-image_refused, Comes-made, Comes-made_complete, Comes-read, Comes-refused, Comes-small, Comes-turned_down, Comes-words, Comes-write}
 use Rattle.nesc_monitor.proofs.monitor.run.Goals as goal
 
 pub returns-clause-words : goal.returns-clause-words
@@ -11,6 +11,12 @@ returns-clause-done g c = λ run is. Comes-done _ _ _ _ _ _ _ c.carry_out-ending
 
 pub returns-clause-complete : goal.returns-clause-complete
 returns-clause-complete g c = rw c.status.ensures (Comes-complete _ _ _ _ _ _ _ c.carry_out-ending.ensures.comes)
+
+pub returns-clause-image_refused : goal.returns-clause-image_refused
+returns-clause-image_refused g c = rw c.status.ensures (Comes-image_refused _ _ _ _ _ _ _ c.carry_out-ending.ensures.comes)
+
+pub returns-clause-turned_down : goal.returns-clause-turned_down
+returns-clause-turned_down g c = λ run is tells. Comes-turned_down _ _ _ _ _ _ _ c.carry_out-ending.ensures.comes run (sym c.status.ensures ∙ is) tells
 
 pub returns-clause-refused : goal.returns-clause-refused
 returns-clause-refused g c = rw c.status.ensures (Comes-refused _ _ _ _ _ _ _ c.carry_out-ending.ensures.comes)

@@ -1,18 +1,20 @@
+use Rattle.std.proofs.Common.{refl, arith}
 use Rattle.std.proofs.lemmas.Result.{on_ok_weaker}
-use Rattle.text_kit.proofs.WritesLemmas.{Grows-then}
+use Rattle.std.specs.FinMap.{empty}
+use Rattle.text_kit.proofs.WritesLemmas.{Grows-then, Rose-earlier}
 use Rattle.nesc_monitor.proofs.TellLemmas.{Appends-flushed, AppendsPrefix-cut, AppendsPrefix-flushed}
 use Rattle.nesc_monitor.proofs.monitor.write_trace.Goals as goal
 
 pub returns-in-Ok-clause-all : goal.returns-in-Ok-clause-all
-returns-in-Ok-clause-all g c =
-    let steps = c.in-Ok.ensures in
+returns-in-Ok-clause-all g c kept =
+    let steps = c.in-Ok.ensures kept in
     on_ok_weaker c.flush.result
     (λ empty. record { groups = steps.groups; end = steps.end; run = steps.run; all = Appends-flushed _ _ _ _ _ _ _ c.requires.empty steps.writes.all c.flush.ensures.keeps empty })
     c.flush.ensures.empty
 
 pub returns-in-Ok-clause-front : goal.returns-in-Ok-clause-front
-returns-in-Ok-clause-front g c =
-    let steps = c.in-Ok.ensures in
+returns-in-Ok-clause-front g c kept =
+    let steps = c.in-Ok.ensures kept in
     record {
       groups = steps.groups;
       end = steps.end;
@@ -21,11 +23,36 @@ returns-in-Ok-clause-front g c =
     }
 
 pub returns-in-Err-clause-front : goal.returns-in-Err-clause-front
-returns-in-Err-clause-front g c =
-    let steps = c.in-Err.ensures in
+returns-in-Err-clause-front g c kept =
+    let steps = c.in-Err.ensures kept in
     record {
       groups = steps.groups;
       end = steps.end;
       run = steps.run;
       first = AppendsPrefix-cut _ _ _ _ _ c.requires.empty steps.writes.first steps.writes.stays_lent.more;
     }
+
+pub returns-in-Ok-clause-lent : goal.returns-in-Ok-clause-lent
+returns-in-Ok-clause-lent g c =
+    let told = (c.in-Ok.ensures empty).writes.stays_lent.same in
+    let flushed = c.flush.ensures.lent in
+    cc
+
+pub returns-in-Ok-clause-cause : goal.returns-in-Ok-clause-cause
+returns-in-Ok-clause-cause g c =
+    let told = (c.in-Ok.ensures empty).writes.cause in
+    let flushed = c.flush.ensures.cause in
+    record {
+      never_falls = omega (arith, told.never_falls, flushed.never_falls);
+      rose = λ failed. Rose-earlier _ _ _ told.never_falls (flushed.rose failed);
+    }
+
+pub returns-in-Err-clause-lent : goal.returns-in-Err-clause-lent
+returns-in-Err-clause-lent g c =
+    let told = (c.in-Err.ensures empty).writes.stays_lent.same in
+    cc
+
+pub returns-in-Err-clause-cause : goal.returns-in-Err-clause-cause
+returns-in-Err-clause-cause g c =
+    let told = (c.in-Err.ensures empty).writes.cause in
+    record { never_falls = told.never_falls; rose = λ failed. told.rose refl }

@@ -1,4 +1,5 @@
 use Rattle.std.proofs.Common.{length}
+use Rattle.nesc_base.specs.Files.{Files}
 use Rattle.nesc_monitor.specs.Steps.{TakesFirst}
 use Rattle.nesc_session.specs.Session.{IsReady, state_of}
 use Rattle.nesc_monitor.proofs.steps.take_steps.Given as goal
@@ -7,7 +8,7 @@ use Rattle.nesc_monitor.proofs.steps.take_steps.Given as goal
 abbrev pub invariant-loop-word : goal.invariant-loop-word
 invariant-loop-word g l = record {
   room : IsReady l.session;
-  first : TakesFirst g.K.Sink.taken g.K.Sink.faults g.K.Sink.lent (state_of l.initial.session) l.initial.schedule l.initial.sink (state_of l.session) l.schedule l.sink;
+  first : (kept : Files) → TakesFirst g.K.Sink.taken g.K.Sink.faults g.K.Sink.lent (state_of kept l.initial.session) l.initial.schedule l.initial.sink (state_of kept l.session) l.schedule l.sink;
 }
 
 abbrev pub decreases-loop-word : goal.decreases-loop-word

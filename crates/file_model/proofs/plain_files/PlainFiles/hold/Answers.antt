@@ -7,7 +7,7 @@ use Rattle.file_model.specs.PlainFile.{with_held}
 use Rattle.file_model.proofs.Changing.{is_lent, lent_stands, lent_inserted, IsSome-from_and, either_outcome}
 use Rattle.file_model.proofs.FileSets.{IsFileSet-Holds}
 use Rattle.file_model.proofs.Held.{Holds-with_held}
-use Rattle.file_model.proofs.Maps.{insert_there}
+use Rattle.nesc_base.proofs.Maps.{insert_there}
 use Rattle.file_model.proofs.plain_files.PlainFiles.hold.Goals as goal
 
 pub unwrap-requires : goal.unwrap-requires

@@ -1,13 +1,10 @@
-use Rattle.std.proofs.Common.{sym, ◌∙◌, ap}
-use Rattle.std.specs.List.{position}
-use Rattle.std.specs.Str.{bytes_eq}
+use Rattle.std.proofs.Common.{sym}
 use Rattle.nesc_session.proofs.Found.{HasName-position, IsUnnamed-position}
 use Rattle.nesc_session.proofs.files.Files.find.Goals as goal
 
 pub returns-in_err-index : goal.returns-in_err-index
 returns-in_err-index c =
-    rw c.from_residual.ensures (IsUnnamed-position _ _ c.self.view_is c.args.name.now (ap (position (λ e. bytes_eq e.name c.args.name.now)) (sym c.deref.ensures.value) ∙ sym c.in_err-index.ensures))
+    rw c.from_residual.ensures (IsUnnamed-position _ _ c.self.view_is c.args.name.now (sym c.in_err-index.ensures))
 
 pub returns : goal.returns
-returns c =
-    HasName-position _ _ c.self.view_is c.args.name.now c.in_ok-index.index (ap (position (λ e. bytes_eq e.name c.args.name.now)) (sym c.deref.ensures.value) ∙ sym c.in_ok-index.ensures)
+returns c = HasName-position _ _ c.self.view_is c.args.name.now c.in_ok-index.index (sym c.in_ok-index.ensures)

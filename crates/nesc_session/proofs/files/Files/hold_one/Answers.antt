@@ -1,5 +1,5 @@
 use Rattle.std.proofs.Common.{not, is_some, sym, ap, ◌∙◌, arith}
-use Rattle.nesc_session.proofs.Numbered.{holds-now, stands_within}
+use Rattle.nesc_session.proofs.Numbered.{holds-now, has_entry}
 use Rattle.nesc_session.proofs.Standing.{stands-length}
 use Rattle.nesc_session.proofs.Written.{Writes-insert, filed-insert}
 use Rattle.nesc_session.proofs.files.Files.hold_one.Goals as goal
@@ -16,9 +16,8 @@ pub invariant_of-self : goal.invariant_of-self
 invariant_of-self c =
     let stands = ap is_some (stands-length c.args.self.now.files c.args.file.0 c.args.v c.requires.below) in
     record {
-      few = c.self.invariant.few;
-      fits = c.self.invariant.fits;
-      filed = rw c.hold.ensures.blocks (filed-insert _ _ c.args.file.0 c.args.v c.zero.result c.self.invariant.filed (stands_within _ _ c.self.view_is c.args.file.0 stands));
+      count = c.self.invariant.count;
+      filed = rw c.hold.ensures.blocks (filed-insert _ _ c.args.file.0 c.args.v c.zero.result c.self.invariant.filed (has_entry _ _ c.self.view_is c.args.file.0 stands));
     }
 
 pub returns-clause-fresh : goal.returns-clause-fresh
@@ -27,4 +26,4 @@ returns-clause-fresh c = ap not (c.if-contains.ensures ∙ sym (holds-now _ _ c.
 pub returns-clause-zeros : goal.returns-clause-zeros
 returns-clause-zeros c fresh =
     let stands = ap is_some (stands-length c.args.self.now.files c.args.file.0 c.args.v c.requires.below) in
-    rw (← c.zero.ensures, c.hold.ensures.blocks) (Writes-insert _ _ c.args.file.0 c.args.v c.zero.result c.self.view_is stands)
+    rw (← c.zero.ensures, c.hold.ensures.blocks) (Writes-insert c.self.inside.held.blocks c.self.inside.table c.args.file.0 c.args.v c.zero.result c.self.view_is stands)

@@ -1,4 +1,4 @@
-use Rattle.std.proofs.Common.{length, is_some, sym, ap, ◌∙◌, arith}
+use Rattle.std.proofs.Common.{is_some, sym, ap, ◌∙◌}
 use Rattle.std.proofs.lemmas.Bool.{false≢true}
 use Rattle.std.specs.FinMap.{get, get-empty}
 use Rattle.nesc_session.specs.HeldBlocks.{place_cmp}
@@ -6,7 +6,6 @@ use Rattle.nesc_session.proofs.files.Files.new.Goals as goal
 
 pub invariant_of-result : goal.invariant_of-result
 invariant_of-result c = record {
-  few = omega (arith, ap length c.in_ok-with_capacity.ensures.items);
-  fits = omega (arith, c.in_ok-with_capacity.ensures.exact);
+  count = c.requires;
   filed = λ p some. absurd (false≢true (sym (ap is_some (ap (λ m. get m p) c.in_ok-new.ensures.empty ∙ get-empty place_cmp p)) ∙ some));
 }

@@ -1,13 +1,12 @@
-use Rattle.nesc_session.proofs.Numbered.{stands_within}
+use Rattle.nesc_session.proofs.Numbered.{has_entry}
 use Rattle.nesc_session.proofs.Written.{filed-insert, Writes-insert}
 use Rattle.nesc_session.proofs.files.Files.write.Goals as goal
 
 pub invariant_of-self : goal.invariant_of-self
 invariant_of-self c = record {
-  few = c.self.invariant.few;
-  fits = c.self.invariant.fits;
-  filed = rw c.put.ensures.blocks (filed-insert _ _ c.args.file.0 c.args.v c.args.block.now c.self.invariant.filed (stands_within _ _ c.self.view_is c.args.file.0 c.requires.stands));
+  count = c.self.invariant.count;
+  filed = rw c.put.ensures.blocks (filed-insert _ _ c.args.file.0 c.args.v c.args.block.now c.self.invariant.filed (has_entry _ _ c.self.view_is c.args.file.0 c.requires.stands));
 }
 
 pub returns-clause-blocks : goal.returns-clause-blocks
-returns-clause-blocks c = rw c.put.ensures.blocks (Writes-insert _ _ c.args.file.0 c.args.v c.args.block.now c.self.view_is c.requires.stands)
+returns-clause-blocks c = rw c.put.ensures.blocks (Writes-insert c.self.inside.held.blocks c.self.inside.table c.args.file.0 c.args.v c.args.block.now c.self.view_is c.requires.stands)

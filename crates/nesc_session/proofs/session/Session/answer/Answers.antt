@@ -7,8 +7,8 @@ use Rattle.nesc_session.proofs.RoomLemmas.{sum-keeps}
 use Rattle.nesc_session.proofs.session.Session.answer.Goals as goal
 
 pub returns-in-Create-clause-step : goal.returns-in-Create-clause-step
-returns-in-Create-clause-step c =
-    let state = state_of c.args.self.now in
+returns-in-Create-clause-step c kept =
+    let state = state_of kept c.args.self.now in
     let Steps : HostCommand → Type 0 = λ command. HostStep state command c.create.result (record state { now = c.create.new.self.files }) in
     subst Steps (sym c.in-Create.is) (c.create.new.self.files, c.create.ensures.step, refl)
 
@@ -19,8 +19,8 @@ returns-in-Create-clause-ready c =
     record { room = omega (arith, less, before.room, c.create.ensures.room); last = before.last; few = before.few }
 
 pub returns-in-Put-clause-step : goal.returns-in-Put-clause-step
-returns-in-Put-clause-step c =
-    let state = state_of c.args.self.now in
+returns-in-Put-clause-step c kept =
+    let state = state_of kept c.args.self.now in
     let Steps : HostCommand → Type 0 = λ command. HostStep state command c.put.result (record state { now = c.put.new.self.files }) in
     subst Steps (sym c.in-Put.is) (c.put.new.self.files, c.put.ensures.step, refl)
 
@@ -32,7 +32,7 @@ returns-in-Put-clause-ready c =
     record { room = omega (arith, less, before.room, c.put.ensures.room, brings); last = before.last; few = before.few }
 
 pub returns-in-Get-clause-step : goal.returns-in-Get-clause-step
-returns-in-Get-clause-step c =
-    let state = state_of c.args.self.now in
+returns-in-Get-clause-step c kept =
+    let state = state_of kept c.args.self.now in
     let Steps : HostCommand → Type 0 = λ command. HostStep state command c.get.result state in
     subst Steps (sym c.in-Get.is) (c.args.self.now.files.files, c.get.ensures, refl)

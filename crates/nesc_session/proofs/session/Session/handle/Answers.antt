@@ -9,7 +9,7 @@ use Rattle.nesc_session.proofs.SessionLemmas.{Handles-function}
 use Rattle.nesc_session.proofs.session.Session.handle.Goals as goal
 
 pub returns-in-None-clause-step : goal.returns-in-None-clause-step
-returns-in-None-clause-step c =
+returns-in-None-clause-step c kept =
     (waiting_of-none c.args.self.now.functions.items c.args.f.0 (ap (λ all. numbered all c.args.f.0) (sym c.deref.ensures.value) ∙ c.in-None.ensures), refl)
 
 pub handle-requires : goal.handle-requires
@@ -20,9 +20,9 @@ handle-requires c =
     omega (arith, room-item c.args.self.now.files.files functions c.in-Some.index c.index_mut.result.now item, c.requires.room)
 
 pub returns-in-Some-clause-step : goal.returns-in-Some-clause-step
-returns-in-Some-clause-step c =
+returns-in-Some-clause-step c kept =
     let within = subst (λ all. c.in-Some.index < length all) c.deref.ensures.value c.in-Some.ensures.0 in
-    Handles-function (state_of c.args.self.now) c.args.f.0 c.in-Some.index c.index_mut.result.now c.in-Some.ensures.1 within c.index_mut.ensures.value c.handle.result c.handle.new.self c.handle.new.files.files c.handle.ensures.handled
+    Handles-function (state_of kept c.args.self.now) c.args.f.0 c.in-Some.index c.index_mut.result.now c.in-Some.ensures.1 within c.index_mut.ensures.value c.handle.result c.handle.new.self c.handle.new.files.files c.handle.ensures.handled
 
 pub returns-in-Some-clause-ready : goal.returns-in-Some-clause-ready
 returns-in-Some-clause-ready c =

@@ -12,29 +12,29 @@ use Rattle.nesc_session.proofs.SessionLemmas.{HasNext-some, IsFull-item, Queues-
 use Rattle.nesc_session.proofs.session.Session.submit.Goals as goal
 
 pub returns-then-not-has_next-clause-step : goal.returns-then-not-has_next-clause-step
-returns-then-not-has_next-clause-step c = (none-left (state_of c.args.self.now) c.args.f.0 c.if-not-has_next.ensures, refl)
+returns-then-not-has_next-clause-step c kept = (none-left (state_of kept c.args.self.now) c.args.f.0 c.if-not-has_next.ensures, refl)
 
 pub returns-in_default-clause-step : goal.returns-in_default-clause-step
-returns-in_default-clause-step c =
+returns-in_default-clause-step c kept =
     let none = ap (λ all. numbered all c.args.f.0) (sym c.deref.ensures.value) ∙ c.in_default.ensures in
-    (HasNext-some (state_of c.args.self.now) c.args.f.0 c.if-not-has_next.ensures, attached_of-none c.args.self.now.functions.items c.args.f.0 none, refl)
+    (HasNext-some (state_of kept c.args.self.now) c.args.f.0 c.if-not-has_next.ensures, attached_of-none c.args.self.now.functions.items c.args.f.0 none, refl)
 
 pub returns-then-is_off-clause-step : goal.returns-then-is_off-clause-step
-returns-then-is_off-clause-step c =
+returns-then-is_off-clause-step c kept =
     let within = subst (λ all. c.in-Some.index < length all) c.deref.ensures.value c.in-Some.ensures.0 in
     let item = attached_of-item c.args.self.now.functions.items c.args.f.0 c.in-Some.index c.in-Some.ensures.1 c.index.result.now within c.index.ensures in
-    (HasNext-some (state_of c.args.self.now) c.args.f.0 c.if-not-has_next.ensures, item ∙ none_from c.index.result.now.attached (sym c.if-is_off.ensures), refl)
+    (HasNext-some (state_of kept c.args.self.now) c.args.f.0 c.if-not-has_next.ensures, item ∙ none_from c.index.result.now.attached (sym c.if-is_off.ensures), refl)
 
 pub returns-then-is_full-clause-step : goal.returns-then-is_full-clause-step
-returns-then-is_full-clause-step c =
-    let state = state_of c.args.self.now in
+returns-then-is_full-clause-step c kept =
+    let state = state_of kept c.args.self.now in
     let within = subst (λ all. c.in-Some.index < length all) c.deref.ensures.value c.in-Some.ensures.0 in
     let same = same-item c.args.self.now.functions.items c.in-Some.index c.index.result.now c.index-2.result.now within c.index.ensures c.index-2.ensures in
     let some = ap (λ (function : Function). is_none function.attached) (sym same) ∙ sym c.if-is_off.ensures in
     (HasNext-some state c.args.f.0 c.if-not-has_next.ensures, IsFull-item state c.args.f.0 c.in-Some.index c.index-2.result.now c.in-Some.ensures.1 within c.index-2.ensures some c.if-is_full.ensures, refl)
 
 pub returns-in-Some-take_guest-clause-step : goal.returns-in-Some-take_guest-clause-step
-returns-in-Some-take_guest-clause-step c =
+returns-in-Some-take_guest-clause-step c kept =
     let functions = c.args.self.now.functions.items in
     let index = c.in-Some.index in
     let item = c.index_mut.result.now in
@@ -44,7 +44,7 @@ returns-in-Some-take_guest-clause-step c =
     let same_full = same-item functions index c.index-2.result.now item within c.index-2.ensures c.index_mut.ensures.value in
     let room = subst (λ (function : Function). IfSome function.attached (λ attached. false ≡ nat_le most_queued (length attached.queue))) same_full c.if-is_full.ensures in
     let takes = c.in-Some-take_guest.ensures.next in
-    Queues-item (state_of c.args.self.now) c.args.f.0 index item c.in-Some.ensures.1 within c.index_mut.ensures.value some
+    Queues-item (state_of kept c.args.self.now) c.args.f.0 index item c.in-Some.ensures.1 within c.index_mut.ensures.value some
     c.in-Some-take_guest.request takes.left c.submit.result c.submit.new.self c.take_guest.new.self takes.next takes.result room c.submit.ensures.queued c.submit.ensures.number
 
 pub returns-in-Some-take_guest-clause-ready : goal.returns-in-Some-take_guest-clause-ready

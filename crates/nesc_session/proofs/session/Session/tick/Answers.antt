@@ -1,6 +1,7 @@
 use Rattle.std.proofs.Common.{◌≡◌, ◌<◌, Some, length, slice_get, refl, sym, ap, subst, ◌∙◌, arith}
 use Rattle.std.proofs.lemmas.List.{length-set}
 use Rattle.std.proofs.lemmas.Option.{slice_get-get_or}
+use Rattle.std.specs.FinMap.{empty}
 use Rattle.file_model.specs.Functions.{next_runnable}
 use Rattle.nesc_session.specs.Session.{state_of}
 use Rattle.nesc_session.specs.Outcome.{lines_of}
@@ -9,33 +10,33 @@ use Rattle.nesc_session.proofs.SessionLemmas.{MissLaw-idle, MissLaw-serves, Take
 use Rattle.nesc_session.proofs.session.Session.tick.Goals as goal
 
 pub returns-in_default-clause-step : goal.returns-in_default-clause-step
-returns-in_default-clause-step c =
+returns-in_default-clause-step c kept =
     let none = ap (λ all. next_runnable all c.args.self.now.last) (sym c.deref.ensures.value) ∙ sym c.in_default.ensures.next in
     rw c.told.ensures (none, refl)
 
 pub returns-in_default-clause-law : goal.returns-in_default-clause-law
-returns-in_default-clause-law c =
+returns-in_default-clause-law c kept =
     let none = ap (λ all. next_runnable all c.args.self.now.last) (sym c.deref.ensures.value) ∙ sym c.in_default.ensures.next in
-    MissLaw-idle (state_of c.args.self.now) (lines_of c.told.result) none
+    MissLaw-idle (state_of kept c.args.self.now) (lines_of c.told.result) none
 
 pub serve-requires : goal.serve-requires
 serve-requires c =
     let next = ap (λ all. next_runnable all c.args.self.now.last) (sym c.deref.ensures.value) ∙ sym c.in-Some.ensures.next in
     let within = subst (λ all. c.in-Some.index < length all) c.deref.ensures.value c.in-Some.ensures.within in
-    next-ready (state_of c.args.self.now) c.in-Some.index c.index_mut.result.now within c.index_mut.ensures.value next
+    next-ready (state_of empty c.args.self.now) c.in-Some.index c.index_mut.result.now within c.index_mut.ensures.value next
 
 pub returns-clause-step : goal.returns-clause-step
-returns-clause-step c =
+returns-clause-step c kept =
     let next = ap (λ all. next_runnable all c.args.self.now.last) (sym c.deref.ensures.value) ∙ sym c.in-Some.ensures.next in
     let within = subst (λ all. c.in-Some.index < length all) c.deref.ensures.value c.in-Some.ensures.within in
-    Ticks-takes (state_of c.args.self.now) (lines_of c.serve.result) _
-    (TakesTurn-serves (state_of c.args.self.now) c.in-Some.index c.index_mut.result.now within c.index_mut.ensures.value next c.serve.ensures.serves)
+    Ticks-takes (state_of kept c.args.self.now) (lines_of c.serve.result) _
+    (TakesTurn-serves (state_of kept c.args.self.now) c.in-Some.index c.index_mut.result.now within c.index_mut.ensures.value next c.serve.ensures.serves)
 
 pub returns-clause-law : goal.returns-clause-law
-returns-clause-law c =
+returns-clause-law c kept =
     let next = ap (λ all. next_runnable all c.args.self.now.last) (sym c.deref.ensures.value) ∙ sym c.in-Some.ensures.next in
     let within = subst (λ all. c.in-Some.index < length all) c.deref.ensures.value c.in-Some.ensures.within in
-    MissLaw-serves (state_of c.args.self.now) c.in-Some.index c.index_mut.result.now within c.index_mut.ensures.value next c.serve.ensures.serves
+    MissLaw-serves (state_of kept c.args.self.now) c.in-Some.index c.index_mut.result.now within c.index_mut.ensures.value next c.serve.ensures.serves
 
 pub returns-clause-ready : goal.returns-clause-ready
 returns-clause-ready c =

@@ -1,34 +1,18 @@
 -- The map that has the items of a list by their numbers.
-use Rattle.std.proofs.Common.{◌≡◌, ◌≢◌, ℕ, zero, suc, ◌+◌, ◌-◌, ◌<◌, false, cond, List, [], ◌∷◌, Option, Some, None, inl, inr, option_map, slice_get, refl, sym, ap, ◌∙◌, arith, subst}
+use Rattle.std.proofs.Common.{◌≡◌, ℕ, zero, suc, ◌+◌, ◌-◌, ◌<◌, List, [], ◌∷◌, Option, Some, None, inl, inr, option_map, slice_get, refl, sym, ◌∙◌, arith, subst}
 use Rattle.std.specs.Prelude.{unwrap_or}
-use Rattle.std.specs.Cmp.{nat_cmp_total, unsigned_tied}
-use Rattle.std.specs.FinMap.{FinMap, empty, get, insert, get-empty, get-insert}
-use Rattle.std.specs.Ordering.{nat_cmp, eq_by_cmp}
+use Rattle.std.specs.FinMap.{get, insert, get-empty}
+use Rattle.std.specs.Ordering.{nat_cmp}
 use Rattle.std.proofs.lemmas.Bool.{cases_lt}
-use Rattle.std.proofs.lemmas.Bool.Decides.{Decides-eqb}
 use Rattle.std.proofs.lemmas.Option.{none-some, same_Some}
-
--- a map after an item was put at a number
-module _ {X : Type 0} (m : FinMap nat_cmp X) (k : ℕ) (x : X) where
-  pub get-insert_same : get (insert m k x) k ≡ Some x
-  get-insert_same = get-insert nat_cmp_total m k x k ∙ ap (λ b. cond b (Some x) (get m k)) (unsigned_tied k k ∙ (Decides-eqb k k).1 refl)
-
-  pub get-insert_other : (q : ℕ) → q ≢ k → get (insert m k x) q ≡ get m q
-  get-insert_other q apart =
-      let no : eq_by_cmp nat_cmp q k ≡ false = unsigned_tied q k ∙ grind arith in
-      get-insert nat_cmp_total m k x q ∙ ap (λ b. cond b (Some x) (get m q)) no
+use Rattle.nesc_base.specs.Numbered.{map_from}
+use Rattle.nesc_base.proofs.Maps.{get-insert_other, get-insert_same}
 
 -- what is f of an item, if there is one
 mapped : {X Y : Type 0} (f : X → Y) (o : Option (Option X)) (y : Y) → option_map f (unwrap_or o None) ≡ Some y → (x : X) × (o ≡ Some (Some x)) × (f x ≡ y)
 mapped f None y is = absurd (none-some y is)
 mapped f (Some None) y is = absurd (none-some y is)
 mapped f (Some (Some x)) y is = (x, refl, same_Some (f x) y is)
-
--- f of each item that there is, by its number, the first of number n
-abbrev pub map_from : {X Y : Type 0} → (ℕ → X → Y) → ℕ → List (Option X) → FinMap nat_cmp Y
-map_from f n [] = empty
-map_from f n (None ∷ xs) = map_from f (suc n) xs
-map_from f n (Some x ∷ xs) = insert (map_from f (suc n) xs) n (f n x)
 
 module _ {X Y : Type 0} (f : ℕ → X → Y) where
   -- nothing has a lower number
