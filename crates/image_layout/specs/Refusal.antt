@@ -81,3 +81,9 @@ IsRefused image (BadList place) = LacksList image place
 IsRefused image (BadTable place) = LacksTable image place
 IsRefused image (BadOwner place) = LacksOwners image place
 IsRefused image (TwiceOwned file v) = OwnsTwice image (file, v)
+
+-- there is no superblock, or there are too few blocks
+abbrev pub IsOfDivision : ImageFault → Type 0
+IsOfDivision (BadSuper place) = Unit {0}
+IsOfDivision (BadSize place) = Unit {0}
+IsOfDivision fault = ⊥

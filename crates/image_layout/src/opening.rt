@@ -1,12 +1,11 @@
-ghost use Rattle.std.specs.Prelude.{◌≡◌, ◌≢◌, ◌≤◌, ℕ, IfOk, IsErrOf, Err, true};
+ghost use Rattle.std.specs.Prelude.{◌≡◌, ◌≢◌, ◌≤◌, IfOk, IsErrOf, Err, true};
 ghost use Rattle.nesc_base.specs.Disk.{Goes, Unchanged};
 ghost use Rattle.nesc_base.specs.Fault.{HasCause};
 ghost use Rattle.nesc_base.specs.Geometry.{IsGeometry, total};
 ghost use Rattle.image_layout.specs.declared.fault.ImageFault.{ImageFault};
-ghost use Rattle.image_layout.specs.declared.fault.ImageFault.TheVariants.{BadList};
 ghost use Rattle.image_layout.specs.declared.fault.OpenFault.TheVariants.{Disk, Image, NoMemory};
 ghost use Rattle.image_layout.specs.Opens.{IsDivided};
-ghost use Rattle.image_layout.specs.Refusal.{IsRefused};
+ghost use Rattle.image_layout.specs.Refusal.{IsOfDivision, IsRefused};
 
 use crate::{ImageFault, OpenFault, read_super};
 use nesc_base::{Block, Disk, Geometry};
@@ -19,7 +18,7 @@ pub fn read_geometry<D: Disk>(disk: &mut D) -> Result<Geometry, OpenFault>
     ensures sizes { IfOk result IsGeometry }
     ensures enough { IfOk result (λ geometry. total geometry ≤ (D.known disk.old).size) }
     ensures memory { result ≢ Err NoMemory }
-    ensures kinds { (place : ℕ) → result ≢ Err (Image (BadList place)) }
+    ensures kinds { (fault : ImageFault) → IsErrOf result (Image fault) → IsOfDivision fault }
     ensures cause { HasCause (D.known disk.old).faults (D.known disk.new).faults (IsErrOf result (Disk _)) }
     ensures unchanged { Unchanged (D.known disk.old) (D.known disk.new) }
     ensures goes { Goes (D.known disk.old) (D.known disk.new) }

@@ -1,5 +1,5 @@
 -- What is read of a disk that stays as it is, and what an image stands for while its first gate is closed.
-use Rattle.std.proofs.Common.{◌≡◌, ◌≢◌, ℕ, ◌-◌, ◌*◌, ◌/◌, ◌%◌, ◌<◌, true, false, inr, List, Option, Some, drop, length, slice_get, take, refl, sym, ap, ◌∙◌, arith}
+use Rattle.std.proofs.Common.{◌≡◌, ◌⊎◌, ⊎_elim, ℕ, ◌-◌, ◌*◌, ◌/◌, ◌%◌, ◌<◌, true, false, inl, inr, List, [], Option, Some, drop, length, slice_get, take, refl, sym, ap, ◌∙◌, arith}
 use Rattle.std.proofs.lemmas.Bool.{false≢true}
 use Rattle.std.proofs.lemmas.Option.{slice_get_within}
 use Rattle.nesc_base.specs.declared.block.Block.{Block}
@@ -9,13 +9,14 @@ use Rattle.image_layout.specs.declared.fault.ImageFault.{ImageFault}
 use Rattle.image_layout.specs.declared.fault.ImageFault.TheVariants.{BadSuper, BadSize, BadList, BadTable, BadOwner, TwiceOwned}
 use Rattle.image_layout.specs.Gate.{is_open}
 use Rattle.image_layout.specs.Owners.{MayOwn, Owner}
-use Rattle.image_layout.specs.Refusal.{IsRefused}
+use Rattle.image_layout.specs.Opens.{IsDivided}
+use Rattle.image_layout.specs.Refusal.{IsOfDivision, IsRefused}
 use Rattle.image_layout.specs.Slots.{Lays, block_at, gate}
-use Rattle.nesc_base.specs.Files.{Files}
+use Rattle.nesc_base.specs.Geometry.{total}
 use Rattle.image_layout.proofs.OneMap.{slice_get-among}
 use Rattle.image_layout.proofs.OneFault.{opens_as_nothing}
 use Rattle.image_layout.proofs.OneReading.{one_superblock}
-use Rattle.image_opening.specs.Parts.{IsTurnedDown, OpensAsItIs, OpensOrIsTurnedDown}
+use Rattle.image_opening.specs.Parts.{HasOpenGate, IsClosed, IsTurnedDown, IsTurnedDownOnce}
 
 -- a block that is read later was there at first
 pub block_here : (old now : Known) (block : Block) (place at : ℕ) → old.tells ≡ true → Goes old now → Unchanged old now
@@ -56,26 +57,64 @@ lays_itself geometry image closed = record {
   over = refl;
 }
 
--- an image that is refused before its slots are looked at is turned down
-pub turned_down : (image : List Block) (fault : ImageFault) → ((place : ℕ) → fault ≢ BadList place) → IsRefused image fault → IsTurnedDown image fault
-turned_down image (BadSuper place) kinds refused = refused
-turned_down image (BadSize place) kinds refused = refused
-turned_down image (BadList place) kinds refused = absurd (kinds place refl)
-turned_down image (BadTable place) kinds refused = refused
-turned_down image (BadOwner place) kinds refused = refused
-turned_down image (TwiceOwned file v) kinds refused = refused
+-- an image is divided in one way
+one_division : (image : List Block) (one other : Geometry) → IsDivided image one → IsDivided image other → one ≡ other
+one_division image one other first second = one_superblock (block_at image 0) one other first.super second.super
 
--- an image that opens as it is is not refused
-not_refused : (image : List Block) (files : Files) (fault : ImageFault) → OpensAsItIs image files → ¬ IsRefused image fault
-not_refused image files fault opens refused = (opens_as_nothing image fault refused).0 opens.geometry files opens.places opens.opens
+-- where the first gate of a division is closed, it is that of the image
+pub closed_here : (image : List Block) (geometry : Geometry) → IsDivided image geometry → is_open (gate geometry image 1) ≡ false → IsClosed image
+closed_here image geometry divided closed other as_well =
+    ap (λ (g : Geometry). is_open (gate g image 1)) (one_division image other geometry as_well divided) ∙ closed
 
--- nor turned down, since its first gate is closed
-pub opens_or_is_turned_down : (image : List Block) → OpensOrIsTurnedDown image
-opens_or_is_turned_down image files (BadSuper place) opens down = not_refused image files (BadSuper place) opens down
-opens_or_is_turned_down image files (BadSize place) opens down = not_refused image files (BadSize place) opens down
-opens_or_is_turned_down image files (BadList place) opens down =
-    let same : down.geometry ≡ opens.geometry = one_superblock (block_at image 0) down.geometry opens.geometry down.divided.super opens.opens.says.divided.super in
-    false≢true (sym opens.closed ∙ ap (λ (geometry : Geometry). is_open (gate geometry image 1)) (sym same) ∙ down.opened)
-opens_or_is_turned_down image files (BadTable place) opens down = not_refused image files (BadTable place) opens down
-opens_or_is_turned_down image files (BadOwner place) opens down = not_refused image files (BadOwner place) opens down
-opens_or_is_turned_down image files (TwiceOwned file v) opens down = not_refused image files (TwiceOwned file v) opens down
+-- an image with no superblock, or with too few blocks, is not divided
+undivided : (image : List Block) (fault : ImageFault) → IsOfDivision fault → IsRefused image fault → (geometry : Geometry) → ¬ IsDivided image geometry
+undivided image (BadSuper place) of refused geometry divided = refused.none geometry divided.super
+undivided image (BadSize place) of refused geometry divided =
+    ⊎_elim (λ (none : image ≡ []). omega (arith, divided.some, ap length none))
+    (λ few.
+    let same : few.0 ≡ geometry = one_superblock (block_at image 0) few.0 geometry few.1 divided.super in
+    omega (arith, few.2, divided.enough, ap total same)) refused.few
+undivided image (BadList place) of refused geometry divided = absurd of
+undivided image (BadTable place) of refused geometry divided = absurd of
+undivided image (BadOwner place) of refused geometry divided = absurd of
+undivided image (TwiceOwned file v) of refused geometry divided = absurd of
+
+-- so it is turned down
+pub turned_down : (image : List Block) (fault : ImageFault) → IsOfDivision fault → IsRefused image fault → IsTurnedDown image fault
+turned_down image (BadSuper place) of refused = (refused, λ geometry divided. absurd (undivided image (BadSuper place) of refused geometry divided))
+turned_down image (BadSize place) of refused = (refused, λ geometry divided. absurd (undivided image (BadSize place) of refused geometry divided))
+turned_down image (BadList place) of refused = absurd of
+turned_down image (BadTable place) of refused = absurd of
+turned_down image (BadOwner place) of refused = absurd of
+turned_down image (TwiceOwned file v) of refused = absurd of
+
+-- why an image is turned down: its gate is open, or it is refused with a closed one
+abbrev Cause : List Block → ImageFault → Type 0
+Cause image fault = ((place : ℕ) × HasOpenGate image place × (fault ≡ BadList place)) ⊎ (IsRefused image fault × IsClosed image)
+
+cause_of : (image : List Block) (fault : ImageFault) → IsTurnedDown image fault → Cause image fault
+cause_of image (BadSuper place) down = inr down
+cause_of image (BadSize place) down = inr down
+cause_of image (BadList place) down = inl (place, down, refl)
+cause_of image (BadTable place) down = inr down
+cause_of image (BadOwner place) down = inr down
+cause_of image (TwiceOwned file v) down = inr down
+
+-- a gate is not open and closed
+gate_clash : (image : List Block) (place : ℕ) → HasOpenGate image place → ¬ IsClosed image
+gate_clash image place opened closed = false≢true (sym (closed opened.geometry opened.divided) ∙ opened.opened)
+
+-- there is one cause, and the image does not open as it is
+pub turned_down_once : (image : List Block) → IsTurnedDownOnce image
+turned_down_once image fault down = (
+  λ files opens. ⊎_elim
+      (λ open_gate. gate_clash image open_gate.0 open_gate.1 (closed_here image opens.geometry opens.opens.says.divided opens.closed))
+      (λ refused. (opens_as_nothing image fault refused.0).0 opens.geometry files opens.places opens.opens) (cause_of image fault down),
+  λ other too. ⊎_elim
+      (λ one. ⊎_elim
+      (λ second. second.2 ∙ ap BadList (second.1.at ∙ sym one.1.at) ∙ sym one.2)
+      (λ refused. absurd (gate_clash image one.0 one.1 refused.1)) (cause_of image other too))
+      (λ one. ⊎_elim
+      (λ second. absurd (gate_clash image second.0 second.1 one.1))
+      (λ refused. (opens_as_nothing image fault one.0).1 other refused.0) (cause_of image other too)) (cause_of image fault down),
+)

@@ -41,11 +41,18 @@ pub record HasOpenGate (image : List Block) (place : ℕ) : Type 0 where
   pub opened : is_open (gate geometry image 1) ≡ true
   pub at : place ≡ 2
 
--- so far a slot that is to be replayed is refused, whatever its list holds
+-- the first gate, where the image has one, is closed
+abbrev pub IsClosed : List Block → Type 0
+IsClosed image = (geometry : Geometry) → IsDivided image geometry → is_open (gate geometry image 1) ≡ false
+
+-- So far a slot that is to be replayed is refused, whatever its list holds, and what stands behind it is judged only
+-- where there is none.
 abbrev pub IsTurnedDown : List Block → ImageFault → Type 0
 IsTurnedDown image (BadList place) = HasOpenGate image place
-IsTurnedDown image fault = IsRefused image fault
+IsTurnedDown image fault = IsRefused image fault × IsClosed image
 
--- an image that opens as it is is turned down for no cause
-abbrev pub OpensOrIsTurnedDown : List Block → Type 0
-OpensOrIsTurnedDown image = (files : Files) (fault : ImageFault) → OpensAsItIs image files → ¬ IsTurnedDown image fault
+-- an image that is turned down does not open as it is, and is turned down for one cause with one place
+abbrev pub IsTurnedDownOnce : List Block → Type 0
+IsTurnedDownOnce image =
+    (fault : ImageFault) → IsTurnedDown image fault
+    → ((files : Files) → ¬ OpensAsItIs image files) × ((other : ImageFault) → IsTurnedDown image other → other ≡ fault)

@@ -4,7 +4,7 @@
 mod laws;
 mod parts;
 
-pub use laws::opens_or_is_turned_down;
+pub use laws::turned_down_once;
 pub use parts::{Parts, read_block, read_parts};
 
 #[cfg(test)]

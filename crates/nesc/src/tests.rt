@@ -66,25 +66,26 @@ fn new_image(alloc: Global) -> Result<MemDisk, AllocError> {
     disk_of(alloc, 291, &[(0, superblock())], &[])
 }
 
-/// What `run` answers to words, two texts and an image.
-fn tell_over(
+/// A source of these bytes, of which these reads fail.
+fn source_of(alloc: Global, bytes: &[u8], fails: &[u64]) -> Result<MemSource, AllocError> {
+    Ok(MemSource::new(
+        Vec::from_slice(alloc, bytes)?,
+        Vec::from_slice(alloc, fails)?,
+    ))
+}
+
+/// What `run` answers to words, two texts and an image, where these writes of the trace fail.
+fn tell_with(
     alloc: Global,
     words: &[&str],
-    commands: &str,
-    schedule: &str,
+    mut commands: MemSource,
+    mut schedule: MemSource,
     image: &mut MemDisk,
+    out_fails: &[u64],
 ) -> Result<Told, AllocError> {
     let line = line_of(alloc, words)?;
     let mut spare = no_disk(alloc);
-    let mut commands = MemSource::new(
-        Vec::from_slice(alloc, commands.as_bytes())?,
-        Vec::new(alloc),
-    );
-    let mut schedule = MemSource::new(
-        Vec::from_slice(alloc, schedule.as_bytes())?,
-        Vec::new(alloc),
-    );
-    let mut out = MemSink::new(alloc, Vec::new(alloc));
+    let mut out = MemSink::new(alloc, Vec::from_slice(alloc, out_fails)?);
     let mut err = MemSink::new(alloc, Vec::new(alloc));
     let status = run(
         alloc,
@@ -97,4 +98,17 @@ fn tell_over(
         &mut err,
     );
     Ok(Told { status, out, err })
+}
+
+/// The same where nothing but the image fails.
+fn tell_over(
+    alloc: Global,
+    words: &[&str],
+    commands: &str,
+    schedule: &str,
+    image: &mut MemDisk,
+) -> Result<Told, AllocError> {
+    let commands = source_of(alloc, commands.as_bytes(), &[])?;
+    let schedule = source_of(alloc, schedule.as_bytes(), &[])?;
+    tell_with(alloc, words, commands, schedule, image, &[])
 }

@@ -15,7 +15,7 @@ use Rattle.image_layout.specs.declared.fault.ImageFault.{ImageFault}
 use Rattle.image_layout.specs.declared.fault.ImageFault.TheVariants.{BadSuper, BadSize, BadList, BadTable, BadOwner, TwiceOwned}
 use Rattle.script_lang.specs.Limits.{most_queued}
 use Rattle.image_opening.specs.Parts.{IsTurnedDown}
-use Rattle.image_opening.proofs.PartsLemmas.{opens_or_is_turned_down}
+use Rattle.image_opening.proofs.PartsLemmas.{turned_down_once}
 use Rattle.nesc_monitor.specs.Endings.{AreAccepted, AreKnownAccepted, AreKnownRefused, AreTaken, Comes, IsCarriedOut, IsCommandsRefused, IsEarly, IsImageRefused, IsInputRefused, IsKnownTurnedDown, IsReadOut, IsScheduleRefused, IsTurnedAway, OpensKnown, Runs, WritesFront, WritesTrace, status_of}
 use Rattle.nesc_monitor.specs.Starting.{IsOpened, StartsAndTells, StartsFrom}
 use Rattle.nesc_monitor.specs.Making.{IsMade, Makes, made_text}
@@ -187,14 +187,14 @@ runs_complete Words commands schedule old new out runs accepted opens one two th
 runs_complete Memory commands schedule old new out runs accepted opens one two three four = runs
 runs_complete Commands commands schedule old new out runs accepted opens one two three four = absurd (commands_clash commands.before schedule.before accepted runs.0)
 runs_complete Schedule commands schedule old new out runs accepted opens one two three four = absurd (schedule_clash commands.before schedule.before accepted runs.0)
-runs_complete (Image fault) commands schedule old new out runs accepted opens one two three four = absurd (opens_or_is_turned_down old.contents opens.1 fault opens.2 (runs.1 opens.0))
+runs_complete (Image fault) commands schedule old new out runs accepted opens one two three four = absurd ((turned_down_once old.contents fault (runs.1 opens.0)).0 opens.1 opens.2)
 runs_complete Device commands schedule old new out runs accepted opens one two three four = absurd (three runs.1)
 runs_complete Read commands schedule old new out runs accepted opens one two three four = absurd (⊎_elim one two runs.0)
 runs_complete Write commands schedule old new out runs accepted opens one two three four = absurd (four runs.2)
 
 -- an image that is turned down was not opened
 image_clash : (old : Known) → IsOpened old → IsKnownTurnedDown old → ⊥
-image_clash old opened down = opens_or_is_turned_down old.contents opened.0 down.1 (opened.1.opens down.0) down.2
+image_clash old opened down = (turned_down_once old.contents down.1 down.2).0 opened.0 (opened.1.opens down.0)
 
 runs_image_refused : (ending : Ending) (commands schedule : Watched) (old new : Known) (out : Watched) → Runs ending commands schedule old new out → AreKnownAccepted commands.before schedule.before → IsKnownTurnedDown old
     → ¬ HasFailed commands → ¬ HasFailed schedule → ¬ Rose old.faults new.faults → IsImageRefused (status_of ending)
@@ -344,7 +344,7 @@ module _ (ending : Ending) (commands schedule : Watched) (old new : Known) (out 
   Comes-words (Some (Make geometry)) comes = ((λ is. absurd (subst (Made geometry) (ending_words ending is) comes.2)), (λ is. absurd (none-some _ (sym is))))
 
   pub Comes-early : (command : Option Command) → Said command → IsEarly (status_of ending) → out.after ≡ out.before
-  Comes-early None comes early = comes.4.bytes
+  Comes-early None comes early = comes.5.bytes
   Comes-early (Some Run) comes early = runs_early ending commands schedule old new out comes.0 early
   Comes-early (Some (Make geometry)) comes early = makes_early ending geometry old new out comes.2 early
 

@@ -154,7 +154,7 @@ Runs other commands schedule old new out = IsTurnedAway other commands schedule 
 -- What an ending says, by the command that the words are: of the two sources, of the image and of the sink.
 abbrev pub Comes : Ending → Option Command → Watched → Watched → Known → Known → Watched → Type 0
 Comes outcome None commands schedule old new out =
-    (outcome ≡ ending.Words) × IsUntouched commands × IsUntouched schedule × Unchanged old new × IsUntouched out
+    (outcome ≡ ending.Words) × IsUntouched commands × IsUntouched schedule × Unchanged old new × (new.faults ≡ old.faults) × IsUntouched out
 Comes outcome (Some Run) commands schedule old new out = Runs outcome commands schedule old new out × Unchanged old new
 Comes outcome (Some (Make geometry)) commands schedule old new out = IsUntouched commands × IsUntouched schedule × Makes outcome geometry old new out
 

@@ -38,7 +38,7 @@ fn two_files() -> [(usize, Block); 9] {
     ]
 }
 
-// In each row the reads from the first on to before the last fail in turn. The opening of `two_files` reads superblock,
+// In each row the reads from one number on to before another fail in turn. The opening of `two_files` reads superblock,
 // gate, table, map and five data blocks.
 #[test]
 fn images_open_or_are_refused(rt: HostRuntime) -> Result<(), Fail> {
@@ -55,7 +55,7 @@ fn images_open_or_are_refused(rt: HostRuntime) -> Result<(), Fail> {
     let owners = block_of(&[(0, b"\x01"), (8, b"\x01")]);
     let texts = (COMMANDS, SCHEDULE);
     let none = ("", "");
-    for (size, blocks, (first_read, last_read), (commands, schedule), status, line) in [
+    for (size, blocks, (from, to), (commands, schedule), status, line) in [
         (291, files.as_slice(), (10, 11), texts, Status::Done, TRACE),
         (
             291,
@@ -124,7 +124,7 @@ fn images_open_or_are_refused(rt: HostRuntime) -> Result<(), Fail> {
             "nesc: input schedule\n",
         ),
     ] {
-        for read in first_read..last_read {
+        for read in from..to {
             let mut image = disk_of(alloc, size, blocks, &[read])?;
             let told = tell_over(alloc, &["run"], commands, schedule, &mut image)?;
             let (out, err) = if status == Status::Done {

@@ -1,6 +1,6 @@
-use crate::tests::{Told, line_of, new_image, no_disk, tell_over};
+use crate::tests::{Told, line_of, new_image, no_disk, source_of, tell_over, tell_with};
 use crate::without_memory;
-use nesc_fakes::{MemSink, MemSource, SlowSink, SlowSource};
+use nesc_fakes::{MemSink, SlowSink, SlowSource};
 use nesc_monitor::{Status, run};
 use std::alloc::{AllocError, Global};
 use std::test::Fail;
@@ -19,33 +19,13 @@ const GUEST_SCHEDULE: &str = "h h g1 g1 t i1 t t t t";
 const GUEST_TRACE: &str =
     "h ok\nh ok\ng 1 1\ng 1 2\nt 1 3 miss unmapped 0\ni 1 hold 1\nt 1 3 walk 0\nr 1 1 ok 1\nt 1 2 hole 0\nt 1 3 walk 0\nt 1 4 hole 0\nr 1 2 ok 3 z 1111111111111111 z\ndone 10\n";
 
-/// The status of `run` over sources and a sink of which these calls fail, and what the sinks have taken.
+/// What `run` answers over sources and a sink of which these calls fail.
 fn tell_failing(alloc: Global, schedule: &str, fails: [&[u64]; 3]) -> Result<Told, AllocError> {
     let [commands_fail, schedule_fail, out_fail] = fails;
-    let mut commands = MemSource::new(
-        Vec::from_slice(alloc, GUEST_COMMANDS.as_bytes())?,
-        Vec::from_slice(alloc, commands_fail)?,
-    );
-    let mut schedule = MemSource::new(
-        Vec::from_slice(alloc, schedule.as_bytes())?,
-        Vec::from_slice(alloc, schedule_fail)?,
-    );
-    let mut out = MemSink::new(alloc, Vec::from_slice(alloc, out_fail)?);
-    let mut err = MemSink::new(alloc, Vec::new(alloc));
-    let words = line_of(alloc, &["run"])?;
+    let commands = source_of(alloc, GUEST_COMMANDS.as_bytes(), commands_fail)?;
+    let schedule = source_of(alloc, schedule.as_bytes(), schedule_fail)?;
     let mut image = new_image(alloc)?;
-    let mut spare = no_disk(alloc);
-    let status = run(
-        alloc,
-        words.as_slice(),
-        &mut commands,
-        &mut schedule,
-        &mut image,
-        &mut spare,
-        &mut out,
-        &mut err,
-    );
-    Ok(Told { status, out, err })
+    tell_with(alloc, &["run"], commands, schedule, &mut image, out_fail)
 }
 
 #[test]

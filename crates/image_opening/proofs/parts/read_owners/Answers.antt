@@ -11,7 +11,7 @@ use Rattle.image_layout.specs.Refusal.{LacksOwners}
 use Rattle.image_layout.specs.Slots.{block_at}
 use Rattle.image_layout.proofs.MapBlocks.{each_more}
 use Rattle.image_opening.specs.Parts.{IsTurnedDown}
-use Rattle.image_opening.proofs.PartsLemmas.{MayOwnBlock, block_here, lays_itself, may_all}
+use Rattle.image_opening.proofs.PartsLemmas.{MayOwnBlock, block_here, closed_here, lays_itself, may_all}
 use Rattle.image_opening.proofs.parts.read_owners.Goals as goal
 
 pub returns-in_err-found-clause-refused : goal.returns-in_err-found-clause-refused
@@ -40,7 +40,7 @@ returns-in_err-found-clause-refused g c tells divided closed table fault is =
     let gives : c.from_residual-in_err-found.result ≡ Err (Image c.in_err-found.field-0.0) = search rules in
     let value = rw c.in_err-found.ensures.ok_part at c.in_err-found.ensures.value in
     let same : BadOwner place ≡ fault = cc in
-    subst (IsTurnedDown image) same lacks
+    subst (IsTurnedDown image) same (lacks, closed_here image c.args.geometry divided closed)
 
 pub loop-b-preserved : goal.loop-b-preserved
 loop-b-preserved g c =

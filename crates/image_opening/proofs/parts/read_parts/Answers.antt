@@ -10,7 +10,7 @@ use Rattle.image_layout.specs.Gate.{is_open}
 use Rattle.image_layout.specs.Refusal.{LacksTable}
 use Rattle.image_layout.specs.Slots.{block_at, gate}
 use Rattle.image_opening.specs.Parts.{IsTurnedDown}
-use Rattle.image_opening.proofs.PartsLemmas.{block_here, lays_itself, turned_down}
+use Rattle.image_opening.proofs.PartsLemmas.{block_here, closed_here, lays_itself, turned_down}
 use Rattle.image_opening.proofs.parts.read_parts.Goals as goal
 
 pub returns-in_err-table-clause-refused : goal.returns-in_err-table-clause-refused
@@ -41,9 +41,9 @@ returns-in_err-table-clause-refused g c tells fault is =
     let gives : c.from_residual-in_err-table.result ≡ Err (Image c.in_err-table.field-0.0) = search rules in
     let value = rw c.in_err-table.ensures.ok_part at c.in_err-table.ensures.value in
     let same : BadTable c.table_at-table_at.result ≡ fault = cc in
-    subst (IsTurnedDown image) same lacks
+    subst (IsTurnedDown image) same (lacks, closed_here image geometry (c.in_ok-geometry.ensures.divided tells) closed)
 
 pub returns-in_err-geometry-clause-refused : goal.returns-in_err-geometry-clause-refused
 returns-in_err-geometry-clause-refused g c tells fault is =
     let same : IsErrOf c.read_geometry.result (Image fault) = search rules in
-    turned_down (g.D.Disk.known c.args.disk.now).contents fault (λ place bad. c.read_geometry.ensures.kinds place (same ∙ ap (λ f. Err (Image f)) bad)) (c.read_geometry.ensures.refused tells fault same)
+    turned_down (g.D.Disk.known c.args.disk.now).contents fault (c.read_geometry.ensures.kinds fault same) (c.read_geometry.ensures.refused tells fault same)
