@@ -125,7 +125,7 @@ IsScheduleRefused (Some commands) (Some schedule) =
     (schedule_of schedule ≡ None) × (length commands ≤ most_bytes) × ((most_bytes < length schedule) ⊎ ((script : Script) × IsCommandsText commands script))
 IsScheduleRefused commands schedule = Unit {0}
 
--- why the image was not looked at: the sources, and why
+-- why the texts were turned away: the sources, and why
 abbrev pub IsTurnedAway : Ending → Watched → Watched → Type 0
 IsTurnedAway ending.Memory commands schedule = Unit {0}
 IsTurnedAway ending.Commands commands schedule = IsCommandsRefused commands.before schedule.before
@@ -140,7 +140,7 @@ pub record AreTaken (commands schedule : Watched) : Type 0 where
   pub no_schedule : IsReadOut schedule.before schedule.after
 
 -- What the command `run` comes to: the two sources, the image before and after, and the sink. The image is opened once
--- both texts are accepted. Where there was no memory it may have been, and else nothing was asked of it.
+-- both texts are accepted, so where they were turned away it did not fail.
 abbrev pub Runs : Ending → Watched → Watched → Known → Known → Watched → Type 0
 Runs ending.Done commands schedule old new out = AreTaken commands schedule × IsOpened old × WritesTrace old commands.before schedule.before out.before out.after
 Runs ending.Write commands schedule old new out =
