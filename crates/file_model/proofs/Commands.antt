@@ -3,11 +3,11 @@ use Rattle.std.proofs.Common.{◌≡◌, ℕ, ◌+◌, ◌<◌, ◌≤◌, inl, 
 use Rattle.std.specs.FinMap.{empty, get, insert}
 use Rattle.std.proofs.lemmas.Bool.{cases_Bool, cases_lt, false≢true}
 use Rattle.nesc_base.specs.declared.block.Block.{Block}
-use Rattle.nesc_base.specs.declared.host.HostCommand.{HostCommand}
-use Rattle.nesc_base.specs.declared.host.HostCommand.TheVariants.{Create, Put, Get, Attach}
-use Rattle.nesc_base.specs.declared.host.HostAnswer.{HostAnswer}
-use Rattle.nesc_base.specs.declared.host.HostAnswer.TheVariants.{Ok, Exists, NoSlot, NoFile, Range, Got, FunctionTaken, FileTaken}
-use Rattle.nesc_base.specs.Script.{numbered, with_numbered}
+use Rattle.nesc_requests.specs.declared.host.HostCommand.{HostCommand}
+use Rattle.nesc_requests.specs.declared.host.HostCommand.TheVariants.{Create, Put, Get, Attach}
+use Rattle.nesc_requests.specs.declared.host.HostAnswer.{HostAnswer}
+use Rattle.nesc_requests.specs.declared.host.HostAnswer.TheVariants.{Ok, Exists, NoSlot, NoFile, Range, Got, FunctionTaken, FileTaken}
+use Rattle.nesc_requests.specs.Script.{numbered, with_numbered}
 use Rattle.nesc_base.specs.Files.{File, Files}
 use Rattle.file_model.specs.Files.{HasName, Puts, PutsEach, read_from}
 use Rattle.file_model.specs.Functions.{Function, fresh, is_off, is_taken}

@@ -1,13 +1,14 @@
 -- Files stay as files may be.
-use Rattle.std.proofs.Common.{◌≡◌, ◌≢◌, ℕ, ◌<◌, ◌≤◌, List, [], ◌∷◌, Option, Some, None, IsSome, refl, sym, ap, ◌∙◌, subst, ⊎_elim}
+use Rattle.std.proofs.Common.{◌≡◌, ◌≢◌, ℕ, ◌<◌, ◌≤◌, List, [], ◌∷◌, Option, Some, None, IsSome, IsTrue, refl, sym, ap, ◌∙◌, subst, ⊎_elim}
 use Rattle.std.specs.FinMap.{empty, get, insert, get-empty}
 use Rattle.std.specs.List.{AllByRecursion}
 use Rattle.std.specs.Ordering.{nat_cmp}
 use Rattle.std.proofs.lemmas.Bool.{cases_eq, false≢true}
 use Rattle.nesc_base.specs.declared.block.Block.{Block}
 use Rattle.nesc_base.specs.Block.{zero_block}
-use Rattle.nesc_base.specs.Files.{Body, File, Files, IsFileSet}
-use Rattle.file_model.specs.Files.{Change, create, hold, put, Creates, Holds, Puts, Changes, with_zeros}
+use Rattle.nesc_base.specs.Files.{Body, File, Files, IsFile, IsFileSet, longest_file}
+use Rattle.nesc_base.specs.Name.{is_name}
+use Rattle.file_model.specs.Files.{Change, create, hold, put, Creates, Holds, Puts, Changes, MayChange, with_zeros}
 use Rattle.nesc_base.proofs.Maps.{get-insert_same, get-insert_other}
 
 -- the blocks of a body lie below a length
@@ -24,7 +25,7 @@ IsSome-from_Some o x e = subst IsSome (sym e) refl
 pub IsFileSet-empty : IsFileSet empty
 IsFileSet-empty = record {
   numbers = λ n some. absurd (nowhere File n some);
-  within = λ n v file stands. absurd (nowhere File n (IsSome-from_Some _ file stands));
+  each = λ n file stands. absurd (nowhere File n (IsSome-from_Some _ file stands));
   apart = λ m n one other stands. absurd (nowhere File m (IsSome-from_Some _ one stands));
 }
 
@@ -38,14 +39,14 @@ stood files n file m other stands =
     ⊎_elim (λ (e : m ≡ n). let one : Some file ≡ Some other = sym (get-insert_same files n file) ∙ sym (ap (get (insert files n file)) e) ∙ stands in here e cc)
     (λ (apart : m ≢ n). before apart (sym (get-insert_other files n file m apart) ∙ stands)) (cases_eq m n)
 
--- A file takes a number. Its name is that of no file of another number, and it holds blocks below its length alone.
-pub IsFileSet-insert : (files : Files) (n : ℕ) (file : File) → IsFileSet files → (1 ≤ n) × (n ≤ 32) → IsHeldBelow file.length file.body
+-- A file takes a number. Its name is that of no file of another number.
+pub IsFileSet-insert : (files : Files) (n : ℕ) (file : File) → IsFileSet files → (1 ≤ n) × (n ≤ 32) → IsFile file
     → ((m : ℕ) (other : File) → m ≢ n → get files m ≡ Some other → other.name ≢ file.name) → IsFileSet (insert files n file)
-IsFileSet-insert files n file set range within fresh = record {
+IsFileSet-insert files n file set range good fresh = record {
   numbers = λ m some. ⊎_elim (λ (e : m ≡ n). subst (λ k. (1 ≤ k) × (k ≤ 32)) (sym e) range) (λ (apart : m ≢ n). set.numbers m (subst IsSome (get-insert_other files n file m apart) some)) (cases_eq m n);
-  within = λ m v other stands some. elim (stood files n file m other stands) [
-    | here e same ↦ subst (λ (f : File). v < f.length) same (within v (subst (λ (f : File). IsSome (get f.body v)) (sym same) some))
-    | before apart was ↦ set.within m v other was some
+  each = λ m other stands. elim (stood files n file m other stands) [
+    | here e same ↦ subst IsFile same good
+    | before apart was ↦ set.each m other was
   ];
   apart = λ l m one other first second named. elim (stood files n file l one first) [
     | here e same ↦ elim (stood files n file m other second) [
@@ -62,7 +63,8 @@ IsFileSet-insert files n file set range within fresh = record {
 -- a file that stands takes other blocks below its length
 pub IsFileSet-with_body : (files : Files) (n : ℕ) (file : File) (body : Body) → IsFileSet files → get files n ≡ Some file → IsHeldBelow file.length body → IsFileSet (insert files n (record file { body = body }))
 IsFileSet-with_body files n file body set stands within =
-    IsFileSet-insert files n (record file { body = body }) set (set.numbers n (IsSome-from_Some _ file stands)) within
+    let good = set.each n file stands in
+    IsFileSet-insert files n (record file { body = body }) set (set.numbers n (IsSome-from_Some _ file stands)) (record { named = good.named; short = good.short; within = within })
     (λ m other apart was named. apart (set.apart m n other file was stands named))
 
 IsHeldBelow-insert : (length : ℕ) (body : Body) (v : ℕ) (block : Block) → IsHeldBelow length body → v < length → IsHeldBelow length (insert body v block)
@@ -75,22 +77,22 @@ IsHeldBelow-with_zeros length body [] within below = within
 IsHeldBelow-with_zeros length body (v ∷ blocks) within below =
     IsHeldBelow-with_zeros length (insert body v zero_block) blocks (IsHeldBelow-insert length body v zero_block within below.0) below.1
 
-pub IsFileSet-Creates : (old : Files) (name : List ℕ) (length : ℕ) (new : Files) → IsFileSet old → Creates old name length new → IsFileSet new
-IsFileSet-Creates old name length new set made = subst IsFileSet (sym made.result)
+pub IsFileSet-Creates : (old : Files) (name : List ℕ) (length : ℕ) (new : Files) → IsTrue (is_name name) → length ≤ longest_file → IsFileSet old → Creates old name length new → IsFileSet new
+IsFileSet-Creates old name length new named short set made = subst IsFileSet (sym made.result)
     (IsFileSet-insert old made.number (record { name = name; length = length; body = empty }) set (made.lowest.first, made.lowest.last)
-    (λ v some. absurd (nowhere Block v some)) (λ m other apart stands. made.unnamed m other stands))
+    (record { named = named; short = short; within = λ v some. absurd (nowhere Block v some) }) (λ m other apart stands. made.unnamed m other stands))
 
 pub IsFileSet-Holds : (old : Files) (n : ℕ) (blocks : List ℕ) (new : Files) → IsFileSet old → Holds old n blocks new → IsFileSet new
 IsFileSet-Holds old n blocks new set held = subst IsFileSet (sym held.result)
     (IsFileSet-with_body old n held.file (with_zeros held.file.body blocks) set held.stands
-    (IsHeldBelow-with_zeros held.file.length held.file.body blocks (λ v. set.within n v held.file held.stands) held.below))
+    (IsHeldBelow-with_zeros held.file.length held.file.body blocks (set.each n held.file held.stands).within held.below))
 
 pub IsFileSet-Puts : (old : Files) (n v : ℕ) (block : Block) (new : Files) → IsFileSet old → Puts old n v block new → IsFileSet new
 IsFileSet-Puts old n v block new set puts = subst IsFileSet (sym puts.result)
     (IsFileSet-with_body old n puts.file (insert puts.file.body v block) set puts.stands
-    (IsHeldBelow-insert puts.file.length puts.file.body v block (λ k. set.within n k puts.file puts.stands) (set.within n v puts.file puts.stands puts.held)))
+    (IsHeldBelow-insert puts.file.length puts.file.body v block (set.each n puts.file puts.stands).within ((set.each n puts.file puts.stands).within v puts.held)))
 
-pub IsFileSet-Changes : (old : Files) (change : Change) (new : Files) → IsFileSet old → Changes old change new → IsFileSet new
-IsFileSet-Changes old (create name length) new set changes = IsFileSet-Creates old name length new set changes
-IsFileSet-Changes old (hold n blocks) new set changes = IsFileSet-Holds old n blocks new set changes
-IsFileSet-Changes old (put n v block) new set changes = IsFileSet-Puts old n v block new set changes
+pub IsFileSet-Changes : (old : Files) (change : Change) (new : Files) → MayChange change → IsFileSet old → Changes old change new → IsFileSet new
+IsFileSet-Changes old (create name length) new may set changes = IsFileSet-Creates old name length new may.0 may.1 set changes
+IsFileSet-Changes old (hold n blocks) new may set changes = IsFileSet-Holds old n blocks new set changes
+IsFileSet-Changes old (put n v block) new may set changes = IsFileSet-Puts old n v block new set changes

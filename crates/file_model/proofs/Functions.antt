@@ -1,8 +1,8 @@
 -- What a function has, found by its number.
 use Rattle.std.proofs.Common.{◌≡◌, ℕ, List, Option, Some, None, refl, ap, ◌∙◌}
 use Rattle.std.specs.Option.{option_and_then}
-use Rattle.nesc_base.specs.declared.request.Miss.{Miss}
-use Rattle.nesc_base.specs.Script.{numbered}
+use Rattle.nesc_requests.specs.declared.request.Miss.{Miss}
+use Rattle.nesc_requests.specs.Script.{numbered}
 use Rattle.file_model.specs.Functions.{Attached, Function, attached_of, waiting_of}
 
 option_and_then-Some : {A B : Type 0} (f : A → Option B) (o : Option A) (y : B) → option_and_then f o ≡ Some y → (x : A) × (o ≡ Some x) × (f x ≡ Some y)

@@ -3,8 +3,8 @@ use Rattle.std.proofs.Common.{◌≡◌, ℕ, nat_eq, nat_lt, ◌<◌, Bool, tru
 use Rattle.std.specs.FinMap.{empty, get, insert}
 use Rattle.std.specs.List.{AllByRecursion, IsDistinct, filter, range_with_len}
 use Rattle.std.proofs.lemmas.Bool.{and_parts, le-ltb, ltb-true, not-true}
-use Rattle.nesc_base.specs.declared.request.Miss.{Miss}
-use Rattle.nesc_base.specs.Script.{with_numbered}
+use Rattle.nesc_requests.specs.declared.request.Miss.{Miss}
+use Rattle.nesc_requests.specs.Script.{with_numbered}
 use Rattle.nesc_base.specs.Files.{File, Files, file_at}
 use Rattle.file_model.specs.Files.{holds, unheld, with_zeros}
 use Rattle.file_model.specs.Functions.{waiting_of}

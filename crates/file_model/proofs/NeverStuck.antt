@@ -1,8 +1,8 @@
 -- The machine is never stuck: each word has a step.
 use Rattle.std.proofs.Common.{List, [], ◌∷◌, refl}
-use Rattle.nesc_base.specs.declared.host.HostCommand.{HostCommand}
-use Rattle.nesc_base.specs.declared.word.Word.{Word}
-use Rattle.nesc_base.specs.declared.word.Word.TheVariants.{T, G, H, I}
+use Rattle.nesc_requests.specs.declared.host.HostCommand.{HostCommand}
+use Rattle.nesc_requests.specs.declared.word.Word.{Word}
+use Rattle.nesc_requests.specs.declared.word.Word.TheVariants.{T, G, H, I}
 use Rattle.file_model.specs.Machine.{HostTurn, Step, Run, with_host}
 use Rattle.file_model.specs.State.{State}
 use Rattle.file_model.specs.declared.line.Line.{Line}

@@ -1,10 +1,10 @@
 -- A command has one answer.
 use Rattle.std.proofs.Common.{◌≡◌, ℕ, ◌+◌, ◌<◌, ◌≤◌, List, length, refl, sym, ap, ◌∙◌, subst, arith}
 use Rattle.nesc_base.specs.declared.block.Block.{Block}
-use Rattle.nesc_base.specs.declared.host.HostCommand.{HostCommand}
-use Rattle.nesc_base.specs.declared.host.HostCommand.TheVariants.{Create, Put, Get, Attach}
-use Rattle.nesc_base.specs.declared.host.HostAnswer.{HostAnswer}
-use Rattle.nesc_base.specs.declared.host.HostAnswer.TheVariants.{Ok, Exists, NoSlot, NoFile, Range, Got, FunctionTaken, FileTaken}
+use Rattle.nesc_requests.specs.declared.host.HostCommand.{HostCommand}
+use Rattle.nesc_requests.specs.declared.host.HostCommand.TheVariants.{Create, Put, Get, Attach}
+use Rattle.nesc_requests.specs.declared.host.HostAnswer.{HostAnswer}
+use Rattle.nesc_requests.specs.declared.host.HostAnswer.TheVariants.{Ok, Exists, NoSlot, NoFile, Range, Got, FunctionTaken, FileTaken}
 use Rattle.nesc_base.specs.Files.{File, Files, IsFileSet}
 use Rattle.file_model.specs.Files.{HasName, IsUnnamed, IsFull, Creates, Holds, PutsEach, read_from, unheld}
 use Rattle.file_model.specs.HostCommands.{FileStep, IsOutside, PutsBlocks, GetsBlocks}

@@ -1,7 +1,7 @@
 -- A handling has one outcome.
 use Rattle.std.proofs.Common.{◌≡◌, ℕ, List, [], ◌∷◌, length, Some, None, refl, sym, ap, ◌∙◌, subst}
-use Rattle.nesc_base.specs.declared.request.Miss.{Miss}
-use Rattle.nesc_base.specs.Script.{with_numbered}
+use Rattle.nesc_requests.specs.declared.request.Miss.{Miss}
+use Rattle.nesc_requests.specs.Script.{with_numbered}
 use Rattle.nesc_base.specs.Files.{Files, file_at}
 use Rattle.file_model.specs.Functions.{Attached, Function, waiting_of}
 use Rattle.file_model.specs.Handlings.{Handles, HandlesMiss, HoldsAll, wanted}

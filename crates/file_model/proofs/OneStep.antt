@@ -1,10 +1,10 @@
 -- A word has one group of lines, and leaves one state.
 use Rattle.std.proofs.Common.{◌≡◌, List, [], ◌∷◌, refl, sym, ap, ◌∙◌}
-use Rattle.nesc_base.specs.declared.host.HostCommand.{HostCommand}
-use Rattle.nesc_base.specs.declared.host.HostAnswer.{HostAnswer}
+use Rattle.nesc_requests.specs.declared.host.HostCommand.{HostCommand}
+use Rattle.nesc_requests.specs.declared.host.HostAnswer.{HostAnswer}
 use Rattle.nesc_base.specs.declared.numbers.FnNo.{FnNo}
-use Rattle.nesc_base.specs.declared.word.Word.{Word}
-use Rattle.nesc_base.specs.declared.word.Word.TheVariants.{T, G, H, I}
+use Rattle.nesc_requests.specs.declared.word.Word.{Word}
+use Rattle.nesc_requests.specs.declared.word.Word.TheVariants.{T, G, H, I}
 use Rattle.nesc_base.specs.Files.{IsFileSet}
 use Rattle.file_model.specs.Handlings.{Handles}
 use Rattle.file_model.specs.HostCommands.{HostStep}

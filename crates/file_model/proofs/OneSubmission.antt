@@ -1,7 +1,7 @@
 -- A guest's turn has one outcome.
 use Rattle.std.proofs.Common.{◌≡◌, ℕ, ◌≤◌, List, [], ◌∷◌, length, Some, None, refl, sym, ap, ◌∙◌, subst, arith}
-use Rattle.nesc_base.specs.declared.request.Request.{Request}
-use Rattle.nesc_base.specs.Script.{requests_of, with_numbered}
+use Rattle.nesc_requests.specs.declared.request.Request.{Request}
+use Rattle.nesc_requests.specs.Script.{requests_of, with_numbered}
 use Rattle.file_model.specs.Functions.{Attached, Function, attached_of}
 use Rattle.file_model.specs.State.{State}
 use Rattle.file_model.specs.Submissions.{HasNext, IsFull, Queues, Submits, queueing}

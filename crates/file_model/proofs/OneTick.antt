@@ -4,12 +4,12 @@ use Rattle.std.specs.FinMap.{empty}
 use Rattle.std.proofs.lemmas.Bool.{both_ways, false≢true}
 use Rattle.nesc_base.specs.declared.block.Block.{Block}
 use Rattle.nesc_base.specs.declared.numbers.FnNo.{FnNo}
-use Rattle.nesc_base.specs.declared.request.Kind.TheVariants.{Unmapped}
-use Rattle.nesc_base.specs.declared.request.Miss.{Miss}
-use Rattle.nesc_base.specs.declared.request.Request.{Request}
-use Rattle.nesc_base.specs.declared.request.Request.TheVariants.{Read, Write}
-use Rattle.nesc_base.specs.Requests.{blocks_of, is_write}
-use Rattle.nesc_base.specs.Script.{with_numbered}
+use Rattle.nesc_requests.specs.declared.request.Kind.TheVariants.{Unmapped}
+use Rattle.nesc_requests.specs.declared.request.Miss.{Miss}
+use Rattle.nesc_requests.specs.declared.request.Request.{Request}
+use Rattle.nesc_requests.specs.declared.request.Request.TheVariants.{Read, Write}
+use Rattle.nesc_requests.specs.Requests.{blocks_of, is_write}
+use Rattle.nesc_requests.specs.Script.{with_numbered}
 use Rattle.nesc_base.specs.Files.{File, Files, file_at}
 use Rattle.file_model.specs.Files.{Puts, holds}
 use Rattle.file_model.specs.Functions.{Attached, next_runnable}

@@ -1,8 +1,8 @@
 -- A guest's turn has an outcome.
 use Rattle.std.proofs.Common.{◌≡◌, ℕ, inl, inr, List, [], ◌∷◌, length, Option, Some, None, refl}
 use Rattle.std.proofs.lemmas.Bool.{cases_lt}
-use Rattle.nesc_base.specs.declared.request.Request.{Request}
-use Rattle.nesc_base.specs.Script.{requests_of, with_numbered}
+use Rattle.nesc_requests.specs.declared.request.Request.{Request}
+use Rattle.nesc_requests.specs.Script.{requests_of, with_numbered}
 use Rattle.file_model.specs.Functions.{Attached, attached_of}
 use Rattle.file_model.specs.State.{State}
 use Rattle.file_model.specs.Submissions.{Submits, queueing}

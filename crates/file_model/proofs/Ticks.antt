@@ -4,13 +4,13 @@ use Rattle.std.specs.FinMap.{empty, get, insert}
 use Rattle.std.proofs.lemmas.Bool.{cases_Bool, cases_lt}
 use Rattle.nesc_base.specs.Block.{zero_block}
 use Rattle.nesc_base.specs.declared.block.Block.{Block}
-use Rattle.nesc_base.specs.declared.request.End.TheVariants as end
-use Rattle.nesc_base.specs.declared.request.Kind.TheVariants.{Unmapped}
-use Rattle.nesc_base.specs.declared.request.Miss.{Miss}
-use Rattle.nesc_base.specs.declared.request.Request.{Request}
-use Rattle.nesc_base.specs.declared.request.Request.TheVariants.{Read, Write}
-use Rattle.nesc_base.specs.Requests.{blocks_of}
-use Rattle.nesc_base.specs.Script.{with_numbered}
+use Rattle.nesc_requests.specs.declared.request.End.TheVariants as end
+use Rattle.nesc_requests.specs.declared.request.Kind.TheVariants.{Unmapped}
+use Rattle.nesc_requests.specs.declared.request.Miss.{Miss}
+use Rattle.nesc_requests.specs.declared.request.Request.{Request}
+use Rattle.nesc_requests.specs.declared.request.Request.TheVariants.{Read, Write}
+use Rattle.nesc_requests.specs.Requests.{blocks_of}
+use Rattle.nesc_requests.specs.Script.{with_numbered}
 use Rattle.nesc_base.specs.Files.{File, Files}
 use Rattle.file_model.specs.Files.{Puts, holds, read}
 use Rattle.file_model.specs.Functions.{Attached, next_runnable}

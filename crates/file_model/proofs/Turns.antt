@@ -4,8 +4,8 @@ use Rattle.std.specs.List.{find}
 use Rattle.std.specs.Option.{is_none}
 use Rattle.std.proofs.lemmas.Bool.{and_parts, false≢true}
 use Rattle.nesc_base.specs.declared.numbers.FnNo.{FnNo}
-use Rattle.nesc_base.specs.declared.request.Queued.{Queued}
-use Rattle.nesc_base.specs.Script.{numbered}
+use Rattle.nesc_requests.specs.declared.request.Queued.{Queued}
+use Rattle.nesc_requests.specs.Script.{numbered}
 use Rattle.file_model.specs.Functions.{Attached, Function, attached_of, in_turn, is_empty, is_ready, is_runnable, next_runnable}
 use Rattle.file_model.specs.State.{State}
 use Rattle.file_model.specs.Ticks.{Turn, IsTurn}

@@ -2,13 +2,10 @@
 use Rattle.std.specs.Prelude.{ℕ, List, refl}
 use Rattle.std.specs.Coded.{Coded, code_by, coded×, coded_list, coded_ℕ}
 use Rattle.std.specs.FinMap as map
-use Rattle.nesc_base.specs.declared.block.Block.{Block}
+use Rattle.nesc_base.specs.Codes.{coded_block}
 use Rattle.nesc_base.specs.Files.{Body, File, Files}
 
--- a block as its bytes
-abbrev pub coded_block : Coded Block
-coded_block = code_by (List ℕ) (coded_list coded_ℕ) (λ block. block.0) (λ bytes. record { 0 = bytes }) (λ _. refl)
-
+-- a body as its blocks
 abbrev pub coded_body : Coded Body
 coded_body = map.code coded_ℕ coded_block
 

@@ -1,11 +1,11 @@
 -- Files: what is read from them, and how they change.
-use Rattle.std.specs.Prelude.{◌≡◌, ◌≢◌, ℕ, ◌+◌, ◌<◌, ◌≤◌, nat_eq, not, Bool, List, [], ◌∷◌, length, Some, None, IsSome, unwrap_or, filter, map}
+use Rattle.std.specs.Prelude.{◌≡◌, ◌≢◌, ℕ, ◌+◌, ◌<◌, ◌≤◌, nat_eq, not, Bool, List, [], ◌∷◌, length, Some, None, IsSome, IsTrue, unwrap_or, filter, map}
 use Rattle.std.specs.List.{range_with_len, AllByRecursion, IsDistinct}
-use Rattle.std.specs.Ordering.{nat_cmp}
-use Rattle.std.specs.FinMap.{FinMap, empty, get, insert, contains_key}
+use Rattle.std.specs.FinMap.{empty, get, insert, contains_key}
 use Rattle.nesc_base.specs.declared.block.Block.{Block}
 use Rattle.nesc_base.specs.Block.{zero_block}
-use Rattle.nesc_base.specs.Files.{Body, File, Files, most_files}
+use Rattle.nesc_base.specs.Files.{Body, File, Files, longest_file, most_files}
+use Rattle.nesc_base.specs.Name.{is_name}
 
 -- Reading
 
@@ -54,6 +54,11 @@ pub data Change : Type 0 where
   create : (name : List ℕ) (length : ℕ) → Change
   hold : (n : ℕ) (blocks : List ℕ) → Change
   put : (n v : ℕ) (block : Block) → Change
+
+-- a file that is made has a name and is not too long
+abbrev pub MayChange : Change → Type 0
+MayChange (create name length) = IsTrue (is_name name) × (length ≤ longest_file)
+MayChange change = Unit {0}
 
 -- the lowest unused number gets the file, which holds nothing
 pub record Creates (old : Files) (name : List ℕ) (length : ℕ) (new : Files) : Type 0 where

@@ -1,9 +1,9 @@
 -- A handling: the host holds the blocks that a function waits for.
 use Rattle.std.specs.Prelude.{◌≡◌, ℕ, nat_lt, List, [], ◌∷◌, length, filter, Some, None}
-use Rattle.nesc_base.specs.declared.request.Miss.{Miss}
+use Rattle.nesc_requests.specs.declared.request.Miss.{Miss}
 use Rattle.nesc_base.specs.Files.{File, Files, file_at}
 use Rattle.file_model.specs.Files.{Changes, hold, unheld}
-use Rattle.nesc_base.specs.Script.{numbered, with_numbered}
+use Rattle.nesc_requests.specs.Script.{numbered, with_numbered}
 use Rattle.file_model.specs.Functions.{Attached, Function, waiting_of}
 use Rattle.file_model.specs.State.{State}
 use Rattle.file_model.specs.declared.line.Handled.{Handled}

@@ -1,10 +1,12 @@
 -- Laws of the definitions.
 use Rattle.std.specs.Prelude.{◌≡◌, List}
-use Rattle.nesc_base.specs.declared.host.HostCommand.{HostCommand}
-use Rattle.nesc_base.specs.declared.host.HostAnswer.{HostAnswer}
-use Rattle.nesc_base.specs.declared.word.Word.{Word}
+use Rattle.std.specs.List.{AllByRecursion}
+use Rattle.nesc_requests.specs.declared.host.HostCommand.{HostCommand}
+use Rattle.nesc_requests.specs.declared.host.HostAnswer.{HostAnswer}
+use Rattle.nesc_requests.specs.declared.word.Word.{Word}
 use Rattle.nesc_base.specs.Files.{Files, IsFileSet}
-use Rattle.file_model.specs.Files.{Change, Changes}
+use Rattle.nesc_requests.specs.Script.{IsWithinLimits}
+use Rattle.file_model.specs.Files.{Change, Changes, MayChange}
 use Rattle.file_model.specs.HostCommands.{HostStep}
 use Rattle.file_model.specs.Machine.{Run, Step}
 use Rattle.file_model.specs.State.{State}
@@ -12,11 +14,16 @@ use Rattle.file_model.specs.declared.line.Line.{Line}
 
 -- a change leaves files as they may be
 abbrev pub KeepsFileSets : Change → Type 0
-KeepsFileSets change = (old new : Files) → IsFileSet old → Changes old change new → IsFileSet new
+KeepsFileSets change = MayChange change → (old new : Files) → IsFileSet old → Changes old change new → IsFileSet new
 
--- from files as they may be, a word leaves files as they may be
+-- files are as they may be, and so is what the host will ask for
+pub record IsSet (state : State) : Type 0 where
+  pub files : IsFileSet state.now
+  pub host : AllByRecursion IsWithinLimits state.script.host
+
+-- so a word leaves them
 abbrev pub KeepsSets : Word → Type 0
-KeepsSets word = (old : State) (lines : List Line) (new : State) → IsFileSet old.now → Step old word lines new → IsFileSet new.now
+KeepsSets word = (old : State) (lines : List Line) (new : State) → IsSet old → Step old word lines new → IsSet new
 
 -- in whatever state, the command has one answer, and leaves one result
 abbrev pub HasOneAnswer : HostCommand → Type 0

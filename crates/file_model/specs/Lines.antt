@@ -3,8 +3,8 @@ use Rattle.std.specs.Prelude.{ℕ, List, ◌++◌, codes, length}
 use Rattle.std.specs.List.{flat_map}
 use Rattle.std.specs.Fmt.{decimal}
 use Rattle.nesc_base.specs.declared.block.Block.{Block}
-use Rattle.nesc_base.specs.declared.host.HostAnswer.{HostAnswer}
-use Rattle.nesc_base.specs.declared.host.HostAnswer.TheVariants.{Ok, Exists, NoSlot, NoFile, Range, Got, FunctionTaken, FileTaken}
+use Rattle.nesc_requests.specs.declared.host.HostAnswer.{HostAnswer}
+use Rattle.nesc_requests.specs.declared.host.HostAnswer.TheVariants.{Ok, Exists, NoSlot, NoFile, Range, Got, FunctionTaken, FileTaken}
 use Rattle.nesc_base.specs.BlockText.{block_text}
 use Rattle.file_model.specs.declared.line.Line.{Line}
 use Rattle.file_model.specs.declared.line.Line.TheVariants.{HostEnd, Host, Submitted, Idle, Served, Missed, Handled, Replied}
@@ -15,12 +15,12 @@ use Rattle.file_model.specs.declared.line.How.TheVariants as how
 use Rattle.file_model.specs.declared.line.Submission.{Submission}
 use Rattle.file_model.specs.declared.line.Submission.TheVariants as submission
 use Rattle.nesc_base.specs.declared.numbers.FnNo.{FnNo}
-use Rattle.nesc_base.specs.declared.request.End.{End}
-use Rattle.nesc_base.specs.declared.request.End.TheVariants as end
-use Rattle.nesc_base.specs.declared.request.Kind.{Kind}
-use Rattle.nesc_base.specs.declared.request.Kind.TheVariants.{Unmapped}
-use Rattle.nesc_base.specs.declared.request.Request.{Request}
-use Rattle.nesc_base.specs.declared.request.Request.TheVariants as request
+use Rattle.nesc_requests.specs.declared.request.End.{End}
+use Rattle.nesc_requests.specs.declared.request.End.TheVariants as end
+use Rattle.nesc_requests.specs.declared.request.Kind.{Kind}
+use Rattle.nesc_requests.specs.declared.request.Kind.TheVariants.{Unmapped}
+use Rattle.nesc_requests.specs.declared.request.Request.{Request}
+use Rattle.nesc_requests.specs.declared.request.Request.TheVariants as request
 
 -- the text of each block, with a space before it
 abbrev pub block_words : List Block → List ℕ

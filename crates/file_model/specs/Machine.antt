@@ -1,8 +1,8 @@
 -- A step of the plain machine, and a run.
 use Rattle.std.specs.Prelude.{◌≡◌, List, [], ◌∷◌}
-use Rattle.nesc_base.specs.declared.host.HostCommand.{HostCommand}
-use Rattle.nesc_base.specs.declared.word.Word.{Word}
-use Rattle.nesc_base.specs.declared.word.Word.TheVariants.{T, G, H, I}
+use Rattle.nesc_requests.specs.declared.host.HostCommand.{HostCommand}
+use Rattle.nesc_requests.specs.declared.word.Word.{Word}
+use Rattle.nesc_requests.specs.declared.word.Word.TheVariants.{T, G, H, I}
 use Rattle.file_model.specs.Handlings.{Handles}
 use Rattle.file_model.specs.HostCommands.{HostStep}
 use Rattle.file_model.specs.Misses.{MissLaw}

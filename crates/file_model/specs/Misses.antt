@@ -1,7 +1,7 @@
 -- Which line a tick shows at a block below the file's length.
 use Rattle.std.specs.Prelude.{◌≡◌, ◌<◌, Bool, true, false, List, ◌∷◌}
-use Rattle.nesc_base.specs.declared.request.Request.{Request}
-use Rattle.nesc_base.specs.declared.request.Request.TheVariants.{Read, Write}
+use Rattle.nesc_requests.specs.declared.request.Request.{Request}
+use Rattle.nesc_requests.specs.declared.request.Request.TheVariants.{Read, Write}
 use Rattle.file_model.specs.Files.{holds}
 use Rattle.file_model.specs.State.{State}
 use Rattle.file_model.specs.Ticks.{Turn, IsTurn, block_of, file_of}

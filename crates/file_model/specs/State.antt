@@ -1,6 +1,6 @@
 -- The state of the plain machine.
 use Rattle.std.specs.Prelude.{ℕ, List, length, replicate}
-use Rattle.nesc_base.specs.Script.{Script}
+use Rattle.nesc_requests.specs.Script.{Script}
 use Rattle.nesc_base.specs.Files.{Files}
 use Rattle.file_model.specs.Functions.{Function, off}
 

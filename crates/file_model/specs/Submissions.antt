@@ -1,21 +1,18 @@
 -- A guest's turn to give its next request.
-use Rattle.std.specs.Prelude.{◌≡◌, ℕ, ◌+◌, ◌<◌, ◌≤◌, List, [], ◌∷◌, ◌++◌, length, min, Some, None}
-use Rattle.nesc_base.specs.declared.request.Request.{Request}
-use Rattle.nesc_base.specs.Script.{numbered, requests_of, with_numbered}
+use Rattle.std.specs.Prelude.{◌≡◌, ℕ, ◌<◌, ◌≤◌, List, [], ◌∷◌, ◌++◌, length, Some, None}
+use Rattle.nesc_base.specs.Count.{risen}
+use Rattle.nesc_requests.specs.declared.request.Request.{Request}
+use Rattle.nesc_requests.specs.Script.{numbered, requests_of, with_numbered}
 use Rattle.file_model.specs.Functions.{Attached, Function, attached_of}
 use Rattle.file_model.specs.State.{State}
 use Rattle.file_model.specs.declared.line.Submission.{Submission}
 use Rattle.file_model.specs.declared.line.Submission.TheVariants as submission
 
--- the number after a number, which stands still at 2^64 - 1
-abbrev pub following : ℕ → ℕ
-following n = min (n + 1) 18446744073709551615
-
 -- the function with one request more
 abbrev pub queueing : Function → Attached → Request → Function
 queueing function attached request = record {
   attached = Some (record attached { queue = attached.queue ++ (record { id = function.next; request = request }) ∷ [] });
-  next = following function.next;
+  next = risen function.next;
 }
 
 -- the guest's next request waits for its function, whose queue has room for it

@@ -2,18 +2,18 @@
 use Rattle.std.specs.Prelude.{◌≡◌, ℕ, ◌+◌, ◌-◌, ◌<◌, ◌≤◌, nat_le, if◌then◌else◌, Bool, true, false, List, [], ◌∷◌, slice_index_or, slice_set, Some, None}
 use Rattle.nesc_base.specs.Block.{zero_block}
 use Rattle.nesc_base.specs.declared.numbers.FnNo.{FnNo}
-use Rattle.nesc_base.specs.declared.request.End.{End}
-use Rattle.nesc_base.specs.declared.request.End.TheVariants as end
-use Rattle.nesc_base.specs.declared.request.Kind.TheVariants.{Unmapped}
-use Rattle.nesc_base.specs.declared.request.Miss.{Miss}
-use Rattle.nesc_base.specs.declared.request.Queued.{Queued}
-use Rattle.nesc_base.specs.declared.request.Reply.{Reply}
-use Rattle.nesc_base.specs.declared.request.Request.{Request}
-use Rattle.nesc_base.specs.declared.request.Request.TheVariants.{Read, Write}
+use Rattle.nesc_requests.specs.declared.request.End.{End}
+use Rattle.nesc_requests.specs.declared.request.End.TheVariants as end
+use Rattle.nesc_requests.specs.declared.request.Kind.TheVariants.{Unmapped}
+use Rattle.nesc_requests.specs.declared.request.Miss.{Miss}
+use Rattle.nesc_requests.specs.declared.request.Queued.{Queued}
+use Rattle.nesc_requests.specs.declared.request.Reply.{Reply}
+use Rattle.nesc_requests.specs.declared.request.Request.{Request}
+use Rattle.nesc_requests.specs.declared.request.Request.TheVariants.{Read, Write}
 use Rattle.nesc_base.specs.Files.{File, Files, file_at}
 use Rattle.file_model.specs.Files.{Changes, holds, put, read}
-use Rattle.nesc_base.specs.Requests.{first_of, blocks_of, is_write}
-use Rattle.nesc_base.specs.Script.{numbered, with_numbered}
+use Rattle.nesc_requests.specs.Requests.{first_of, blocks_of, is_write}
+use Rattle.nesc_requests.specs.Script.{numbered, with_numbered}
 use Rattle.file_model.specs.Functions.{Attached, Function, next_runnable}
 use Rattle.file_model.specs.State.{State}
 use Rattle.file_model.specs.declared.line.How.{How}

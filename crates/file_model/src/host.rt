@@ -1,18 +1,21 @@
-ghost use Rattle.std.specs.Prelude.{◌≡◌, IfOk, OnErr};
+ghost use Rattle.std.specs.Prelude.{◌≡◌, ◌≤◌, IfOk, OnErr};
+ghost use Rattle.nesc_base.specs.Files.{longest_file};
 ghost use Rattle.file_model.specs.HostCommands.{FileStep};
 
 use crate::PlainFiles;
-use nesc_base::{Blocks, HostAnswer, HostCommand, Name, NoMemory};
+use nesc_base::{Blocks, Name, NoMemory};
+use nesc_requests::{HostAnswer, HostCommand};
 use std::alloc::Global;
 
 impl PlainFiles {
-    /// Makes a file, if it can. An `Err` says that there was no memory, and changes nothing.
+    /// Makes a file of so many blocks, 0 to 1,048,576, if it can. An `Err` says that there was no memory, and changes nothing.
     pub fn answer_create(
         &mut self,
         alloc: Global,
         name: Name,
         len: u32,
     ) -> Result<HostAnswer, NoMemory>
+        requires { len ≤ longest_file }
         ensures ok { IfOk result (λ answer. FileStep self.old (HostCommand.Create name len) answer self.new) }
         ensures err { OnErr result (self.new ≡ self.old) }
     {

@@ -1,6 +1,6 @@
 ghost use Rattle.std.specs.FinMap.{empty};
-ghost use Rattle.nesc_base.specs.declared.host.HostCommand.{HostCommand};
-ghost use Rattle.nesc_base.specs.declared.word.Word.{Word};
+ghost use Rattle.nesc_requests.specs.declared.host.HostCommand.{HostCommand};
+ghost use Rattle.nesc_requests.specs.declared.word.Word.{Word};
 ghost use Rattle.nesc_base.specs.Files.{IsFileSet};
 ghost use Rattle.file_model.specs.Files.{Change};
 ghost use Rattle.file_model.specs.Laws.{HasOneAnswer, HasOneStep, IsAnswered, IsNeverStuck, KeepsFileSets, KeepsSets};
@@ -12,7 +12,7 @@ pub fn file_sets_stay()
     ensures changes { (change : Change) → KeepsFileSets change }
 {}
 
-/// So does each step, whatever word it takes.
+/// So does each step, whatever word it takes, where what the host asks for is within the limits.
 pub fn file_sets_stay_in_steps()
     ensures { (word : Word) → KeepsSets word }
 {}

@@ -13,7 +13,7 @@ pub use laws::{
 };
 pub use line::{Handled, How, Line, Submission};
 pub use plain_file::PlainFile;
-pub use plain_files::{MOST_FILES, PlainFiles};
+pub use plain_files::PlainFiles;
 
 #[cfg(test)]
 mod tests;

@@ -1,4 +1,5 @@
-use nesc_base::{FnNo, HostAnswer, Miss, Reply};
+use nesc_base::FnNo;
+use nesc_requests::{HostAnswer, Miss, Reply};
 
 /// One line of a trace.
 #[derive(Debug, Drop)]

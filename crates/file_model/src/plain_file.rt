@@ -1,6 +1,7 @@
 ghost use Rattle.std.specs.Prelude.{◌≡◌, ◌↔◌, ◌+◌, ◌-◌, ◌^◌, ◌<◌, ◌≤◌, length, IsTrue, IsSome, SomeIff, OnErr, OnOk};
 ghost use Rattle.std.specs.FinMap as map;
 ghost use Rattle.nesc_base.specs.Block.{zero_block};
+ghost use Rattle.nesc_base.specs.Name.{is_name};
 ghost use Rattle.file_model.specs.Files.{holds, read, read_from};
 ghost use Rattle.file_model.specs.PlainFile.{with_block, with_held};
 
@@ -32,8 +33,10 @@ impl Model for PlainFile {
 impl PlainFile {
     /// A file of so many blocks that holds none yet.
     pub fn new(alloc: Global, name: Name, len: u32) -> PlainFile
-        ensures { result ≡ record { name = name; length = len; body = map.empty } }
+        ensures file { result ≡ record { name = name; length = len; body = map.empty } }
+        ensures named { IsTrue (is_name name) }
     {
+        let _bytes = name.bytes();
         PlainFile {
             name,
             len,

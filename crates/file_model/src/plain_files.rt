@@ -1,18 +1,15 @@
 ghost use Rattle.std.specs.Prelude.{◌≡◌, ◌+◌, ◌-◌, ◌^◌, ◌<◌, ◌≤◌, length, IfSome, IsSome, IsSomeAnd, MatchOption, OnErr, OnOk};
 ghost use Rattle.std.specs.FinMap as map;
 ghost use Rattle.std.specs.Option.{option_copied};
-ghost use Rattle.nesc_base.specs.Files.{IsFileSet};
+ghost use Rattle.nesc_base.specs.Files.{IsFileSet, longest_file};
 ghost use Rattle.file_model.specs.Files.{Changes, HasName, IsFull, IsLowestUnused, IsUnnamed, PutsEach, create, hold, put, unheld};
 ghost use Rattle.file_model.specs.PlainFiles.{AreHeld};
 
 use crate::PlainFile;
-use nesc_base::{Block, Blocks, FileNo, Name, NoMemory};
+use nesc_base::{Block, Blocks, FileNo, MOST_FILES, Name, NoMemory};
 use std::alloc::Global;
 use std::collections::BTreeMap;
 use std::marker::Model;
-
-/// How many files there may be.
-pub const MOST_FILES: u16 = 32;
 
 /// The files by their numbers, 1 to 32.
 #[derive(Debug, Drop)]
@@ -91,6 +88,7 @@ impl PlainFiles {
     ) -> Result<(), NoMemory>
         requires unnamed { IsUnnamed self.old name }
         requires lowest { IsLowestUnused self.old number.0 }
+        requires short { len ≤ longest_file }
         ensures ok { OnOk result (Changes self.old (create name len) self.new) }
         ensures err { OnErr result (self.new ≡ self.old) }
     {
@@ -125,7 +123,7 @@ impl PlainFiles {
         ensures { PutsEach self.old number.0 v blocks.now self.new }
     {
         for k in 0..blocks.len() {
-            self.put(number, v + k, blocks.get(k));
+            self.put(number, v + k, &blocks.get(k));
         }
     }
 }

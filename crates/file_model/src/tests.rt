@@ -1,5 +1,6 @@
 use crate::PlainFiles;
-use nesc_base::{Block, Blocks, FileNo, HostAnswer, Name};
+use nesc_base::{Block, Blocks, FileNo, Name};
+use nesc_requests::HostAnswer;
 use std::alloc::Global;
 use std::test::Fail;
 

@@ -9,10 +9,10 @@ use Rattle.image_layout.specs.declared.fault.ImageFault.TheVariants.{BadSuper, B
 use Rattle.image_layout.specs.Laws.{OpensAsNothing}
 use Rattle.image_layout.specs.Owners.{Owner}
 use Rattle.image_layout.specs.Refusal.{IsRefused}
-use Rattle.image_layout.specs.Slots.{block_at}
+use Rattle.slot_layout.specs.Slots.{block_at}
 use Rattle.image_layout.specs.Super.{IsSuperblock}
 use Rattle.image_layout.proofs.Causes.{list_stage, no_blocks, no_list, no_owners, no_super, no_table, no_twice, one_list_place, one_owners_place, one_table_place, one_twice, owners_stage, table_stage, twice_stage}
-use Rattle.image_layout.proofs.OneSaying.{Divided, Laid, Mapped, Single, Tabled, single_of}
+use Rattle.image_layout.proofs.OneParts.{Divided, Laid, Mapped, Single, Tabled, single_of}
 
 -- what an image has whose first n parts are good: a superblock if a block, all the blocks, lists, a table, a map, and
 -- no owner twice
@@ -99,7 +99,7 @@ module _ (image : List Block) where
 pub opens_as_nothing : (image : List Block) → OpensAsNothing image
 opens_as_nothing image fault refused = (
   λ geometry files places opens.
-      let good = single_of image geometry opens.laid opens.entries opens.owners opens.says in
+      let good = single_of image geometry opens.laid opens.has.entries opens.has.owners (record { divided = opens.divided; lays = opens.lays; parts = opens.has.parts }) in
       next image fault refused (fewer image 6 (suc (rank fault)) (omega (arith, rank_below fault)) good),
   λ other refused'. elim (cases_lt (rank fault) (rank other)) [
     | inl less ↦ absurd (not_behind image fault other refused refused' less)

@@ -1,15 +1,17 @@
 -- What an image says makes one set of files and one set of places.
-use Rattle.std.proofs.Common.{◌≡◌, ℕ, zero, suc, ◌+◌, ◌-◌, List, Option, Some, None, inl, inr, option_map, refl, sym, ap, ◌∙◌, arith, subst}
+use Rattle.std.proofs.Common.{◌≡◌, ℕ, zero, suc, ◌+◌, List, Option, Some, None, option_map, refl, sym, ap, ◌∙◌, arith, subst}
+use Rattle.std.specs.Prelude.{◌↔◌, IsSome, is_some}
+use Rattle.std.specs.Option.{option_and_then}
 use Rattle.std.specs.Cmp.{nat_cmp_total}
 use Rattle.std.specs.FinMap.{FinMap, get, nat_cmp-IsAntisymmetric, same_map}
 use Rattle.std.specs.Ordering.{nat_cmp}
-use Rattle.std.proofs.lemmas.Bool.{cases_lt}
+use Rattle.std.proofs.lemmas.Bool.{false≢true}
 use Rattle.nesc_base.specs.declared.block.Block.{Block}
 use Rattle.nesc_base.specs.declared.geometry.Geometry.{Geometry}
 use Rattle.nesc_base.specs.Files.{Body, File, Files}
-use Rattle.nesc_base.specs.Geometry.{area_from}
+use Rattle.nesc_base.specs.Places.{HeldAt, Places, place_of}
 use Rattle.image_layout.specs.declared.table.TableEntry.{TableEntry}
-use Rattle.image_layout.specs.Opens.{AreFiles, ArePlaces, Places}
+use Rattle.image_layout.specs.Opens.{AreFiles, ArePlaces, IsOwned}
 use Rattle.image_layout.specs.Owners.{Owner}
 
 -- maps from numbers that answer alike are one
@@ -23,7 +25,7 @@ same_values None (Some y) there back = back y refl
 same_values (Some x) other there back = sym (there x refl)
 
 -- a file without its blocks
-abbrev named_of : File → TableEntry
+abbrev pub named_of : File → TableEntry
 named_of file = record { name = file.name; length = file.length }
 
 -- files that are named alike and hold one body are one
@@ -60,13 +62,29 @@ module _ (geometry : Geometry) (laid : List Block) (entries : List (Option Table
   pub one_files : (files others : Files) → AreFiles geometry laid entries owners files → AreFiles geometry laid entries owners others → files ≡ others
   one_files files others first second = one_map_of files others (same_at files others first second)
 
--- and the places
-pub one_places : (geometry : Geometry) (owners : List (Option Owner)) (places elsewhere : Places) → ArePlaces geometry owners places → ArePlaces geometry owners elsewhere → places ≡ elsewhere
-one_places geometry owners places elsewhere first second = one_map_of places elsewhere (λ at.
-    elim (cases_lt at (area_from geometry)) [
-      | inl before ↦ first.before at before ∙ sym (second.before at before)
-      | inr behind ↦
-          let k : ℕ = at - area_from geometry in
-          let place : at ≡ area_from geometry + k = omega arith in
-          ap (get places) place ∙ first.each k ∙ sym (second.each k) ∙ ap (get elsewhere) (sym place)
-    ])
+-- options that are there alike are one where their values are
+same_there : {X : Type 0} (one other : Option X) → is_some one ≡ is_some other → ((x y : X) → one ≡ Some x → other ≡ Some y → x ≡ y) → one ≡ other
+same_there None None there same = refl
+same_there None (Some y) there same = absurd (false≢true there)
+same_there (Some x) None there same = absurd (false≢true (sym there))
+same_there (Some x) (Some y) there same = ap (λ z. Some z) (same x y refl refl)
+
+module _ (geometry : Geometry) (owners : List (Option Owner)) (files : Files) where
+  -- what stands at a place of one file's is owned, and the other way round
+  place_owned : (places : Places) → ArePlaces geometry owners files places → (n : ℕ) (held : HeldAt) → get places n ≡ Some held
+      → (v at : ℕ) → (get held v ≡ Some at) ↔ IsOwned geometry owners n v at
+  place_owned places are n held there v at =
+      let same : place_of places n v ≡ get held v = ap (option_and_then (λ (h : HeldAt). get h v)) there in
+      let filed : IsSome (get files n) = sym (are.filed n) ∙ ap is_some there in (
+        λ is. (are.each n v at filed).0 (same ∙ is),
+        λ owned. sym same ∙ (are.each n v at filed).1 owned,
+      )
+
+  -- so the places are one
+  pub one_places : (places elsewhere : Places) → ArePlaces geometry owners files places → ArePlaces geometry owners files elsewhere → places ≡ elsewhere
+  one_places places elsewhere first second = one_map_of places elsewhere (λ n.
+      same_there (get places n) (get elsewhere n) (first.filed n ∙ sym (second.filed n)) (λ x y here there.
+      one_map_of x y (λ v.
+      same_values (get x v) (get y v)
+      (λ at is. (place_owned elsewhere second n y there v at).1 ((place_owned places first n x here v at).0 is))
+      (λ at is. (place_owned places first n x here v at).1 ((place_owned elsewhere second n y there v at).0 is)))))

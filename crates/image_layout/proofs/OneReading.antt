@@ -1,18 +1,14 @@
 -- The superblock, a list and the table are read in one way.
-use Rattle.std.proofs.Common.{◌≡◌, ℕ, suc, ◌<◌, List, Option, drop, length, slice_get, refl, sym, ap, ◌∙◌, arith}
+use Rattle.std.proofs.Common.{◌≡◌, ℕ, ◌<◌, List, Option, drop, length, slice_get, refl, sym, ap, ◌∙◌, arith}
 use Rattle.std.specs.Prelude.{unwrap_or}
 use Rattle.std.proofs.lemmas.List.{same_lists}
-use Rattle.std.proofs.lemmas.Grind.{same_number_lists}
 use Rattle.std.proofs.lemmas.Option.{unwrap_or-slice_get}
 use Rattle.byteorder.specs.Endian.{little_number}
 use Rattle.nesc_base.specs.declared.block.Block.{Block}
 use Rattle.nesc_base.specs.declared.geometry.Geometry.{Geometry}
-use Rattle.nesc_base.specs.Geometry.{IsGeometry}
 use Rattle.image_layout.specs.declared.table.TableEntry.{TableEntry}
 use Rattle.image_layout.specs.Super.{IsSuperblock}
 use Rattle.image_layout.specs.Table.{IsTable}
-use Rattle.image_layout.specs.Targets.{IsListOf}
-use Rattle.image_layout.proofs.ListsOf.{number_of_list}
 use Rattle.image_layout.proofs.Superblocks.{sizes-superblock}
 use Rattle.image_layout.proofs.TableLemmas.{entry_at, entry_at-one}
 
@@ -27,14 +23,6 @@ one_superblock block one other first second =
     let read : ℕ → ℕ = λ at. little_number 4 (drop at block.0) in
     let found : Geometry = record { version = read 8; blocks = read 12; slack = read 16 } in
     sym (sizes-superblock block one found first refl refl refl) ∙ sizes-superblock block other found second refl refl refl
-
--- blocks are no two lists
-pub one_list : (geometry : Geometry) (blocks : List Block) (one other : List ℕ) → IsGeometry geometry
-    → IsListOf geometry blocks one → IsListOf geometry blocks other → one ≡ other
-one_list geometry blocks one other sizes first second =
-    let size : length one ≡ length other = sym (number_of_list geometry blocks one sizes first 0 (omega arith)) ∙ number_of_list geometry blocks other sizes second 0 (omega arith) in
-    same_number_lists one other size (λ k below.
-    sym (number_of_list geometry blocks one sizes first (suc k) (omega arith)) ∙ number_of_list geometry blocks other sizes second (suc k) (omega arith))
 
 -- a block is no two tables
 pub one_table : (block : Block) (one other : List (Option TableEntry)) → IsTable block one → IsTable block other → one ≡ other

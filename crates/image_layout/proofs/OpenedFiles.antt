@@ -1,47 +1,42 @@
--- What an image says opens as files as they may be.
-use Rattle.std.proofs.Common.{◌≡◌, ℕ, ◌+◌, ◌-◌, ◌/◌, ◌%◌, ◌<◌, List, Option, Some, None, IsSome, drop, length, option_map, slice_get, refl, sym, ap, ◌∙◌, arith}
-use Rattle.std.specs.Prelude.{unwrap_or}
+-- What an image says opens as files, whose blocks stand at places.
+use Rattle.std.proofs.Common.{◌≡◌, ℕ, zero, suc, ◌+◌, List, Option, Some, None, IsSome, drop, option_map, slice_get, refl, sym, ap, ◌∙◌, arith, subst}
+use Rattle.std.specs.Prelude.{is_some, unwrap_or}
+use Rattle.std.specs.Option.{option_and_then}
 use Rattle.std.specs.FinMap.{get}
 use Rattle.std.proofs.lemmas.Bool.{false≢true}
-use Rattle.std.proofs.lemmas.Option.{same_Some, slice_get-map, slice_get_within}
+use Rattle.std.proofs.lemmas.Option.{same_Some}
 use Rattle.nesc_base.specs.declared.block.Block.{Block}
 use Rattle.nesc_base.specs.declared.geometry.Geometry.{Geometry}
 use Rattle.nesc_base.specs.Files.{File, Files}
 use Rattle.nesc_base.specs.Geometry.{area_from}
+use Rattle.nesc_base.specs.Places.{HeldAt, Places, place_of}
 use Rattle.image_layout.specs.declared.table.TableEntry.{TableEntry}
 use Rattle.image_layout.specs.Laws.{OpensAsSaid}
-use Rattle.image_layout.specs.Opens.{AreFiles, ArePlaces, IsHeld, IsMap, Places, entries_in, lengths_of}
-use Rattle.image_layout.specs.Owners.{MayOwn, Owner}
-use Rattle.image_layout.proofs.Bodies.{IsOnce, body_from_held, body_of, held_from_body}
+use Rattle.image_layout.specs.Opens.{AreFiles, ArePlaces}
+use Rattle.image_layout.specs.Owners.{Owner}
+use Rattle.image_layout.proofs.Bodies.{IsOnce, belongs_if_held, held_if_belongs, held_of, numbered, slice_get-numbered}
 use Rattle.nesc_base.specs.Numbered.{map_from}
 use Rattle.nesc_base.proofs.Numbered.{found, get_before, get_from}
-use Rattle.image_layout.proofs.OneMap.{slice_get-among, slice_get-drop}
+use Rattle.image_layout.proofs.OneFiles.{one_files}
+use Rattle.image_layout.proofs.OneMap.{slice_get-drop}
 
 -- an option that is some has a value
 pub some_there : {X : Type 0} (o : Option X) → IsSome o → (x : X) × (o ≡ Some x)
 some_there None some = absurd (false≢true some)
 some_there (Some x) some = (x, refl)
 
--- each owner of a map may own
-may_own : (geometry : Geometry) (laid : List Block) (entries : List (Option TableEntry)) (owners : List (Option Owner)) → IsMap geometry laid entries owners
-    → (k : ℕ) (owner : Owner) → slice_get owners k ≡ Some (Some owner) → MayOwn (lengths_of entries) (entries_in geometry (k / 128)) (k % 128) owner
-may_own geometry laid entries owners owned k owner at =
-    let within : k < length owners = slice_get_within owners k (Some owner) at in
-    let count = owned.count in
-    (owned.each (k / 128) (omega arith)).good (k % 128) owner (slice_get-among owners k ∙ at)
-
--- the file of an entry, the files of all, and the places of the owners
+-- the file of an entry and the places of its blocks, and those of all
 abbrev file_from : Geometry → List Block → List (Option Owner) → ℕ → TableEntry → File
-file_from geometry laid owners n entry = record { name = entry.name; length = entry.length; body = body_of n owners (drop (area_from geometry) laid) }
+file_from geometry laid owners n entry = record { name = entry.name; length = entry.length; body = held_of n owners (drop (area_from geometry) laid) }
 
 abbrev files_from : Geometry → List Block → List (Option TableEntry) → List (Option Owner) → Files
 files_from geometry laid entries owners = map_from (file_from geometry laid owners) 1 entries
 
-abbrev pub place_from : ℕ → Owner → ℕ × ℕ
-place_from at owner = (owner.0.0, owner.1)
+abbrev pub place_from : Geometry → List (Option Owner) → ℕ → TableEntry → HeldAt
+place_from geometry owners n entry = held_of n owners (numbered (area_from geometry) owners)
 
-abbrev pub places_from : Geometry → List (Option Owner) → Places
-places_from geometry owners = map_from place_from (area_from geometry) owners
+abbrev pub places_from : Geometry → List (Option TableEntry) → List (Option Owner) → Places
+places_from geometry entries owners = map_from (place_from geometry owners) 1 entries
 
 -- an entry is that of its file
 named_back : (geometry : Geometry) (laid : List Block) (owners : List (Option Owner)) (n : ℕ) (entry : Option TableEntry)
@@ -49,19 +44,12 @@ named_back : (geometry : Geometry) (laid : List Block) (owners : List (Option Ow
 named_back geometry laid owners n None = refl
 named_back geometry laid owners n (Some entry) = refl
 
--- they are the places of the owners
-pub are_places : (geometry : Geometry) (owners : List (Option Owner)) → ArePlaces geometry owners (places_from geometry owners)
-are_places geometry owners = record {
-  before = get_before place_from (area_from geometry) owners;
-  each = get_from place_from (area_from geometry) owners;
-}
+-- what is made of an item is there if the item is
+is_some-option_map : {X Y : Type 0} (f : X → Y) (o : Option X) → is_some (option_map f o) ≡ is_some o
+is_some-option_map f None = refl
+is_some-option_map f (Some x) = refl
 
 module _ (geometry : Geometry) (laid : List Block) (entries : List (Option TableEntry)) (owners : List (Option Owner)) where
-  -- a file that stands in the files is that of an entry
-  entry_of : (n : ℕ) (file : File) → get (files_from geometry laid entries owners) n ≡ Some file
-      → (e : ℕ) × (n ≡ 1 + e) × ((entry : TableEntry) × (slice_get entries e ≡ Some (Some entry)) × (file_from geometry laid owners n entry ≡ file))
-  entry_of n file at = found (file_from geometry laid owners) 1 entries n file at
-
   -- they are the files of the entries, and hold what the owners say
   are_files : IsOnce owners → AreFiles geometry laid entries owners (files_from geometry laid entries owners)
   are_files once = record {
@@ -72,9 +60,9 @@ module _ (geometry : Geometry) (laid : List Block) (entries : List (Option Table
         ∙ ap (option_map (λ (file : File). record { name = file.name; length = file.length })) (get_from (file_from geometry laid owners) 1 entries e)
         ∙ named_back geometry laid owners (1 + e) (unwrap_or (slice_get entries e) None);
     held = λ n v file block at.
-        let body : body_of n owners (drop (area_from geometry) laid) ≡ file.body = ap (λ (f : File). f.body) (entry_of n file at).2.2 in (
+        let body : held_of n owners (drop (area_from geometry) laid) ≡ file.body = ap (λ (f : File). f.body) (found (file_from geometry laid owners) 1 entries n file at).2.2 in (
           λ is.
-              let held = held_from_body n owners (drop (area_from geometry) laid) v block (ap (λ b. get b v) body ∙ is) in
+              let held = belongs_if_held n owners (drop (area_from geometry) laid) v block (ap (λ b. get b v) body ∙ is) in
               record {
                 k = held.k;
                 owner = held.owner;
@@ -84,44 +72,68 @@ module _ (geometry : Geometry) (laid : List Block) (entries : List (Option Table
                 stands = sym (slice_get-drop (area_from geometry) laid held.k) ∙ held.stands;
               },
           λ held. sym (ap (λ b. get b v) body)
-              ∙ body_from_held n owners (drop (area_from geometry) laid) v block once held.k held.owner held.owned (held.file, held.place)
+              ∙ held_if_belongs n owners (drop (area_from geometry) laid) v block once held.k held.owner held.owned (held.file, held.place)
               (slice_get-drop (area_from geometry) laid held.k ∙ held.stands),
         );
   }
 
--- so the image opens as them, and they are as files may be
+  -- there are places where there is a file
+  filed_behind : (e : ℕ) → is_some (get (places_from geometry entries owners) (1 + e)) ≡ is_some (get (files_from geometry laid entries owners) (1 + e))
+  filed_behind e =
+      let entry : Option TableEntry = unwrap_or (slice_get entries e) None in
+      ap is_some (get_from (place_from geometry owners) 1 entries e) ∙ is_some-option_map (place_from geometry owners (1 + e)) entry
+      ∙ sym (ap is_some (get_from (file_from geometry laid owners) 1 entries e) ∙ is_some-option_map (file_from geometry laid owners (1 + e)) entry)
+
+  filed : (n : ℕ) → is_some (get (places_from geometry entries owners) n) ≡ is_some (get (files_from geometry laid entries owners) n)
+  filed zero =
+      ap is_some (get_before (place_from geometry owners) 1 entries 0 (omega arith))
+      ∙ sym (ap is_some (get_before (file_from geometry laid owners) 1 entries 0 (omega arith)))
+  filed (suc e) =
+      let next : 1 + e ≡ suc e = omega arith in
+      subst (λ n. is_some (get (places_from geometry entries owners) n) ≡ is_some (get (files_from geometry laid entries owners) n)) next (filed_behind e)
+
+  -- and they are those of the owners
+  are_places : IsOnce owners → ArePlaces geometry owners (files_from geometry laid entries owners) (places_from geometry entries owners)
+  are_places once = record {
+    filed = filed;
+    each = λ n v at some.
+        let there = some_there (get (places_from geometry entries owners) n) (filed n ∙ some) in
+        let these : held_of n owners (numbered (area_from geometry) owners) ≡ there.0 = (found (place_from geometry owners) 1 entries n there.0 there.1).2.2 in
+        let same : place_of (places_from geometry entries owners) n v ≡ get (held_of n owners (numbered (area_from geometry) owners)) v =
+        ap (option_and_then (λ (held : HeldAt). get held v)) there.1 ∙ sym (ap (λ (held : HeldAt). get held v) these) in (
+          λ owns.
+              let held = belongs_if_held n owners (numbered (area_from geometry) owners) v at (sym same ∙ owns) in
+              let place : at ≡ area_from geometry + held.k =
+              same_Some at (area_from geometry + held.k) (sym held.stands ∙ slice_get-numbered (area_from geometry) owners held.k (Some held.owner) held.owned) in
+              (held.k, held.owner, held.owned, held.at.0, held.at.1, place),
+          λ owned. same
+              ∙ held_if_belongs n owners (numbered (area_from geometry) owners) v at once owned.0 owned.1 owned.2 (owned.3, owned.4)
+              (slice_get-numbered (area_from geometry) owners owned.0 (Some owned.1) owned.2 ∙ ap (λ m. Some m) (sym owned.5)),
+        );
+  }
+
+-- so are they of whatever files hold what the owners say
+pub placed : (geometry : Geometry) (laid : List Block) (entries : List (Option TableEntry)) (owners : List (Option Owner)) (files : Files) → IsOnce owners → AreFiles geometry laid entries owners files
+    → ArePlaces geometry owners files (places_from geometry entries owners)
+placed geometry laid entries owners files once are =
+    let same : files_from geometry laid entries owners ≡ files = one_files geometry laid entries owners (files_from geometry laid entries owners) files (are_files geometry laid entries owners once) are in
+    subst (λ (f : Files). ArePlaces geometry owners f (places_from geometry entries owners)) same (are_places geometry laid entries owners once)
+
+-- so the image opens as them
 pub opens_as_said : (image : List Block) → OpensAsSaid image
-opens_as_said image geometry laid entries owners says =
-    let files : Files = files_from geometry laid entries owners in
-    let are : AreFiles geometry laid entries owners files = are_files geometry laid entries owners says.once in (
-      files,
-      places_from geometry owners,
-      record { laid = laid; entries = entries; owners = owners; says = says; are_files = are; are_places = are_places geometry owners },
-      record {
-        numbers = λ n some.
-            let file = some_there (get files n) some in
-            let entry = entry_of geometry laid entries owners n file.0 file.1 in
-            let within : entry.0 < length entries = slice_get_within entries entry.0 (Some entry.2.0) entry.2.1 in
-            let count = says.table.good.count in
-            let number = entry.1 in
-            (omega arith, omega arith);
-        within = λ n v file at some.
-            let block = some_there (get file.body v) some in
-            let held : IsHeld geometry laid owners n v block.0 = (are.held n v file block.0 at).0 block.1 in
-            let entry = entry_of geometry laid entries owners n file at in
-            let may = may_own geometry laid entries owners says.owned held.k held.owner held.owned in
-            let number : held.owner.0.0 - 1 ≡ entry.0 = omega (arith, held.file, entry.1) in
-            let used : Some (Some may.length) ≡ Some (Some entry.2.0.length) =
-            sym may.used ∙ ap (slice_get (lengths_of entries)) number ∙ slice_get-map (option_map (λ (e : TableEntry). e.length)) entries entry.0
-            ∙ ap (option_map (option_map (λ (e : TableEntry). e.length))) entry.2.1 in
-            let same : may.length ≡ entry.2.0.length = same_Some may.length entry.2.0.length (same_Some (Some may.length) (Some entry.2.0.length) used) in
-            let size : entry.2.0.length ≡ file.length = ap (λ (f : File). f.length) entry.2.2 in
-            omega (arith, may.below, held.place);
-        apart = λ m n one other at at' same.
-            let first = entry_of geometry laid entries owners m one at in
-            let second = entry_of geometry laid entries owners n other at' in
-            let names : first.2.0.name ≡ second.2.0.name = ap (λ (f : File). f.name) first.2.2 ∙ same ∙ sym (ap (λ (f : File). f.name) second.2.2) in
-            let entry : first.0 ≡ second.0 = says.table.good.apart first.0 second.0 first.2.0 second.2.0 first.2.1 second.2.1 names in
-            omega (arith, first.1, second.1);
-      },
-    )
+opens_as_said image geometry laid entries owners says = (
+  files_from geometry laid entries owners,
+  places_from geometry entries owners,
+  record {
+    laid = laid;
+    divided = says.divided;
+    lays = says.lays;
+    has = record {
+      entries = entries;
+      owners = owners;
+      parts = says.parts;
+      are_files = are_files geometry laid entries owners says.parts.once;
+      are_places = are_places geometry laid entries owners says.parts.once;
+    };
+  },
+)

@@ -5,7 +5,7 @@ use Rattle.std.proofs.lemmas.Slice.Eq.{bytes_eq-Decides}
 use Rattle.std.specs.Str.{bytes_eq}
 use Rattle.nesc_base.specs.declared.block.Block.{Block}
 use Rattle.image_layout.specs.Owners.{AreOwners, MayOwn, Owner, owner_block, owner_bytes}
-use Rattle.image_layout.proofs.Pieces.{piece, spelled-piece}
+use Rattle.slot_layout.proofs.Pieces.{piece, spelled-piece}
 
 -- an entry has 8 bytes
 pub length-owner_bytes : (owner : Option Owner) → length (owner_bytes owner) ≡ 8

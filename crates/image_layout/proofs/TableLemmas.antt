@@ -7,10 +7,10 @@ use Rattle.std.specs.List.{slice_range}
 use Rattle.byteorder.specs.Endian.{little_number}
 use Rattle.byteorder.specs.Numbers.{little_number-reads_back}
 use Rattle.nesc_base.specs.declared.block.Block.{Block}
-use Rattle.image_layout.specs.Bytes.{padded}
+use Rattle.slot_layout.specs.Bytes.{padded}
 use Rattle.image_layout.specs.Table.{Fits, IsTable, entry_bytes, table_block}
 use Rattle.image_layout.specs.declared.table.TableEntry.{TableEntry}
-use Rattle.image_layout.proofs.Pieces.{piece, spelled-piece}
+use Rattle.slot_layout.proofs.Pieces.{piece, spelled-piece}
 
 -- the name stands behind 8 bytes, as long as the second byte says
 pub name_at : (bytes : List ℕ) (entry : TableEntry) (n : ℕ) → bytes ≡ entry_bytes (Some entry) → n ≡ get_or bytes 1 0

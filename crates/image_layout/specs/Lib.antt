@@ -1,11 +1,6 @@
-pub mod Bytes
-pub mod Gate
 pub mod Laws
 pub mod Opens
 pub mod Owners
 pub mod Refusal
-pub mod Slots
 pub mod Super
 pub mod Table
-pub mod Targets
-pub mod Whole

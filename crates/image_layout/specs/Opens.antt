@@ -1,14 +1,14 @@
 -- When an image opens, and as which files.
-use Rattle.std.specs.Prelude.{◌≡◌, ◌↔◌, ℕ, ◌+◌, ◌-◌, ◌*◌, ◌<◌, ◌≤◌, List, length, map, drop, take, Option, Some, None, option_map, slice_get, unwrap_or}
-use Rattle.std.specs.Ordering.{nat_cmp}
-use Rattle.std.specs.FinMap.{FinMap, get}
+use Rattle.std.specs.Prelude.{◌≡◌, ◌↔◌, ℕ, ◌+◌, ◌-◌, ◌*◌, ◌<◌, ◌≤◌, List, length, map, drop, take, Option, Some, None, IsSome, is_some, option_map, slice_get, unwrap_or}
+use Rattle.std.specs.FinMap.{get}
 use Rattle.nesc_base.specs.declared.block.Block.{Block}
 use Rattle.nesc_base.specs.declared.geometry.Geometry.{Geometry}
 use Rattle.nesc_base.specs.Files.{File, Files}
 use Rattle.nesc_base.specs.Geometry.{area_from, map_at, map_blocks, table_at, total}
+use Rattle.nesc_base.specs.Places.{Owns, Places}
 use Rattle.image_layout.specs.declared.table.TableEntry.{TableEntry}
 use Rattle.image_layout.specs.Owners.{AreOwners, Owner}
-use Rattle.image_layout.specs.Slots.{Lays, block_at}
+use Rattle.slot_layout.specs.Slots.{Lays, block_at}
 use Rattle.image_layout.specs.Super.{IsSuperblock}
 use Rattle.image_layout.specs.Table.{IsTable}
 
@@ -40,14 +40,18 @@ pub record IsMap (geometry : Geometry) (laid : List Block) (entries : List (Opti
 abbrev pub Repeats : List (Option Owner) → ℕ → Owner → Type 0
 Repeats owners k owner = (slice_get owners k ≡ Some (Some owner)) × ((j : ℕ) × (j < k) × (slice_get owners j ≡ Some (Some owner)))
 
--- What an image says, part by part: its division, itself with its slots laid over, the entries of its table and the
--- owners of its data blocks, none of which repeats another.
-pub record Says (image : List Block) (geometry : Geometry) (laid : List Block) (entries : List (Option TableEntry)) (owners : List (Option Owner)) : Type 0 where
-  pub divided : IsDivided image geometry
-  pub lays : Lays geometry image laid
+-- What the blocks of an image say that are laid over, part by part: the entries of the table and the owners of the data
+-- blocks, none of which repeats another.
+pub record HasParts (geometry : Geometry) (laid : List Block) (entries : List (Option TableEntry)) (owners : List (Option Owner)) : Type 0 where
   pub table : IsTable (block_at laid (table_at geometry)) entries
   pub owned : IsMap geometry laid entries owners
   pub once : (k : ℕ) (owner : Owner) → ¬ Repeats owners k owner
+
+-- what an image says: its division, itself with its slots laid over, and the parts of that
+pub record Says (image : List Block) (geometry : Geometry) (laid : List Block) (entries : List (Option TableEntry)) (owners : List (Option Owner)) : Type 0 where
+  pub divided : IsDivided image geometry
+  pub lays : Lays geometry image laid
+  pub parts : HasParts geometry laid entries owners
 
 -- a block at v of file n is held in the data block that has this owner
 pub record IsHeld (geometry : Geometry) (laid : List Block) (owners : List (Option Owner)) (n v : ℕ) (block : Block) : Type 0 where
@@ -64,20 +68,27 @@ pub record AreFiles (geometry : Geometry) (laid : List Block) (entries : List (O
   pub named : (e : ℕ) → option_map (λ file. record { name = file.name; length = file.length }) (get files (e + 1)) ≡ unwrap_or (slice_get entries e) None
   pub held : (n v : ℕ) (file : File) (block : Block) → get files n ≡ Some file → (get file.body v ≡ Some block) ↔ IsHeld geometry laid owners n v block
 
--- who holds each data block, by where that stands in the image
-abbrev pub Places : Type 0
-Places = FinMap nat_cmp (ℕ × ℕ)
+-- the data block at this place of the image has an owner, whose block of this file it is
+abbrev pub IsOwned : Geometry → List (Option Owner) → ℕ → ℕ → ℕ → Type 0
+IsOwned geometry owners n v at =
+    (k : ℕ) × (owner : Owner) × (slice_get owners k ≡ Some (Some owner)) × (owner.0.0 ≡ n) × (owner.1 ≡ v) × (at ≡ area_from geometry + k)
 
--- the places are those of the owners
-pub record ArePlaces (geometry : Geometry) (owners : List (Option Owner)) (places : Places) : Type 0 where
-  pub before : (at : ℕ) → at < area_from geometry → get places at ≡ None
-  pub each : (k : ℕ) → get places (area_from geometry + k) ≡ option_map (λ owner. (owner.0.0, owner.1)) (unwrap_or (slice_get owners k) None)
+-- there are places for each of the files and for no other, and they are those of the owners
+pub record ArePlaces (geometry : Geometry) (owners : List (Option Owner)) (files : Files) (places : Places) : Type 0 where
+  pub filed : (n : ℕ) → is_some (get places n) ≡ is_some (get files n)
+  pub each : (n v at : ℕ) → IsSome (get files n) → Owns places n v at ↔ IsOwned geometry owners n v at
+
+-- the blocks that are laid over have these files, whose blocks stand at these places
+pub record HasFiles (geometry : Geometry) (laid : List Block) (files : Files) (places : Places) : Type 0 where
+  pub entries : List (Option TableEntry)
+  pub owners : List (Option Owner)
+  pub parts : HasParts geometry laid entries owners
+  pub are_files : AreFiles geometry laid entries owners files
+  pub are_places : ArePlaces geometry owners files places
 
 -- the image opens as these files, whose blocks stand at these places
 pub record Opens (image : List Block) (geometry : Geometry) (files : Files) (places : Places) : Type 0 where
   pub laid : List Block
-  pub entries : List (Option TableEntry)
-  pub owners : List (Option Owner)
-  pub says : Says image geometry laid entries owners
-  pub are_files : AreFiles geometry laid entries owners files
-  pub are_places : ArePlaces geometry owners places
+  pub divided : IsDivided image geometry
+  pub lays : Lays geometry image laid
+  pub has : HasFiles geometry laid files places

@@ -2,7 +2,7 @@
 use Rattle.std.specs.Prelude.{◌≡◌, ◌≢◌, ℕ, ◌-◌, ◌^◌, ◌<◌, List, ◌∷◌, ◌++◌, length, replicate, Option, Some, None, slice_get}
 use Rattle.nesc_base.specs.declared.block.Block.{Block}
 use Rattle.nesc_base.specs.declared.numbers.FileNo.{FileNo}
-use Rattle.image_layout.specs.Bytes.{block_of_bytes, four_bytes, spelled, two_bytes}
+use Rattle.slot_layout.specs.Bytes.{block_of_bytes, four_bytes, spelled, two_bytes}
 
 -- who holds a data block: a file, and where in it the block stands
 abbrev pub Owner : Type 0

@@ -8,10 +8,9 @@ use Rattle.image_layout.specs.declared.fault.ImageFault.TheVariants.{BadSuper, B
 use Rattle.image_layout.specs.declared.table.TableEntry.{TableEntry}
 use Rattle.image_layout.specs.Opens.{IsDivided, IsMap, IsMapBlock, Repeats}
 use Rattle.image_layout.specs.Owners.{Owner}
-use Rattle.image_layout.specs.Slots.{AreOpen, LaidOver, Lays, block_at, list_at, list_of}
+use Rattle.slot_layout.specs.Slots.{LacksList, Lays, block_at}
 use Rattle.image_layout.specs.Super.{IsSuperblock}
 use Rattle.image_layout.specs.Table.{IsTable}
-use Rattle.image_layout.specs.Targets.{IsListOf}
 
 -- block 0 is no superblock
 pub record LacksSuper (image : List Block) (place : ℕ) : Type 0 where
@@ -24,33 +23,13 @@ pub record LacksBlocks (image : List Block) (place : ℕ) : Type 0 where
   pub few : (image ≡ []) ⊎ ((geometry : Geometry) × IsSuperblock (block_at image 0) geometry × (length image < total geometry))
   pub at : place ≡ length image
 
--- the first slot to be replayed that has no list
-pub record LacksList (image : List Block) (place : ℕ) : Type 0 where
-  pub geometry : Geometry
-  pub divided : IsDivided image geometry
-  pub before : ℕ
-  pub laid : List Block
-  pub over : LaidOver geometry image before laid
-  pub most : before < 4
-  pub opened : AreOpen geometry image (before + 1)
-  pub none : (targets : List ℕ) → ¬ IsListOf geometry (list_of geometry image (before + 1)) targets
-  pub at : place ≡ list_at geometry (before + 1)
-
 -- the table is none
-pub record LacksTable (image : List Block) (place : ℕ) : Type 0 where
-  pub geometry : Geometry
-  pub divided : IsDivided image geometry
-  pub laid : List Block
-  pub lays : Lays geometry image laid
+pub record LacksTable (geometry : Geometry) (laid : List Block) (place : ℕ) : Type 0 where
   pub none : (entries : List (Option TableEntry)) → ¬ IsTable (block_at laid (table_at geometry)) entries
   pub at : place ≡ table_at geometry
 
 -- the first map block that is none for the files of the table
-pub record LacksOwners (image : List Block) (place : ℕ) : Type 0 where
-  pub geometry : Geometry
-  pub divided : IsDivided image geometry
-  pub laid : List Block
-  pub lays : Lays geometry image laid
+pub record LacksOwners (geometry : Geometry) (laid : List Block) (place : ℕ) : Type 0 where
   pub entries : List (Option TableEntry)
   pub table : IsTable (block_at laid (table_at geometry)) entries
   pub b : ℕ
@@ -60,11 +39,7 @@ pub record LacksOwners (image : List Block) (place : ℕ) : Type 0 where
   pub at : place ≡ map_at geometry + b
 
 -- the first data block whose owner an earlier one has
-pub record OwnsTwice (image : List Block) (owner : Owner) : Type 0 where
-  pub geometry : Geometry
-  pub divided : IsDivided image geometry
-  pub laid : List Block
-  pub lays : Lays geometry image laid
+pub record OwnsTwice (geometry : Geometry) (laid : List Block) (owner : Owner) : Type 0 where
   pub entries : List (Option TableEntry)
   pub table : IsTable (block_at laid (table_at geometry)) entries
   pub owners : List (Option Owner)
@@ -73,14 +48,27 @@ pub record OwnsTwice (image : List Block) (owner : Owner) : Type 0 where
   pub repeats : Repeats owners k owner
   pub first : (j : ℕ) (earlier : Owner) → j < k → ¬ Repeats owners j earlier
 
+-- blocks that are laid over have no files, for this cause
+abbrev pub HasNoFiles : Geometry → List Block → ImageFault → Type 0
+HasNoFiles geometry laid (BadTable place) = LacksTable geometry laid place
+HasNoFiles geometry laid (BadOwner place) = LacksOwners geometry laid place
+HasNoFiles geometry laid (TwiceOwned file v) = OwnsTwice geometry laid (file, v)
+HasNoFiles geometry laid fault = ⊥
+
+-- what the image stands for has no files
+pub record DoesNotOpen (image : List Block) (fault : ImageFault) : Type 0 where
+  pub geometry : Geometry
+  pub divided : IsDivided image geometry
+  pub laid : List Block
+  pub lays : Lays geometry image laid
+  pub has : HasNoFiles geometry laid fault
+
 -- the image is refused with this fault
 abbrev pub IsRefused : List Block → ImageFault → Type 0
 IsRefused image (BadSuper place) = LacksSuper image place
 IsRefused image (BadSize place) = LacksBlocks image place
-IsRefused image (BadList place) = LacksList image place
-IsRefused image (BadTable place) = LacksTable image place
-IsRefused image (BadOwner place) = LacksOwners image place
-IsRefused image (TwiceOwned file v) = OwnsTwice image (file, v)
+IsRefused image (BadList place) = (geometry : Geometry) × IsDivided image geometry × LacksList geometry image place
+IsRefused image fault = DoesNotOpen image fault
 
 -- there is no superblock, or there are too few blocks
 abbrev pub IsOfDivision : ImageFault → Type 0

@@ -3,7 +3,7 @@ use Rattle.std.specs.Prelude.{◌≡◌, ◌++◌, codes}
 use Rattle.nesc_base.specs.declared.block.Block.{Block}
 use Rattle.nesc_base.specs.declared.geometry.Geometry.{Geometry}
 use Rattle.nesc_base.specs.Geometry.{IsGeometry, total}
-use Rattle.image_layout.specs.Bytes.{block_of_bytes, four_bytes, padded}
+use Rattle.slot_layout.specs.Bytes.{block_of_bytes, four_bytes, padded}
 
 unfoldable pub superblock : Geometry → Block
 superblock geometry =

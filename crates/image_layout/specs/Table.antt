@@ -2,10 +2,10 @@
 use Rattle.std.specs.Prelude.{◌≡◌, ℕ, ◌≤◌, List, ◌∷◌, ◌++◌, length, replicate, Option, Some, None, IsTrue, slice_get}
 use Rattle.std.specs.List.{AllByRecursion}
 use Rattle.nesc_base.specs.declared.block.Block.{Block}
-use Rattle.nesc_base.specs.Files.{most_files}
+use Rattle.nesc_base.specs.Files.{longest_file, most_files}
 use Rattle.nesc_base.specs.Name.{is_name}
 use Rattle.image_layout.specs.declared.table.TableEntry.{TableEntry}
-use Rattle.image_layout.specs.Bytes.{block_of_bytes, four_bytes, padded, spelled}
+use Rattle.slot_layout.specs.Bytes.{block_of_bytes, four_bytes, padded, spelled}
 
 -- an entry that is not used has zeros; one that is used a flag, the length of the name, the length of the file and
 -- the name
@@ -19,7 +19,7 @@ table_block entries = block_of_bytes (spelled entry_bytes entries)
 -- what an entry may say
 abbrev pub Fits : Option TableEntry → Type 0
 Fits None = Unit {0}
-Fits (Some entry) = IsTrue (is_name entry.name) × (entry.length ≤ 1048576)
+Fits (Some entry) = IsTrue (is_name entry.name) × (entry.length ≤ longest_file)
 
 -- entries as there may be: no two have one name
 pub record AreEntries (entries : List (Option TableEntry)) : Type 0 where

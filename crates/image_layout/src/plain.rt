@@ -5,7 +5,7 @@ ghost use Rattle.image_layout.specs.declared.fault.ImageFault.{ImageFault};
 ghost use Rattle.image_layout.specs.declared.fault.OpenFault.TheVariants.{Disk, Image};
 ghost use Rattle.image_layout.specs.Opens.{IsDivided, IsMap, Says, lengths_of};
 ghost use Rattle.image_layout.specs.Refusal.{IsRefused};
-ghost use Rattle.image_layout.specs.Slots.{Lays, block_at};
+ghost use Rattle.slot_layout.specs.Slots.{Lays, block_at};
 ghost use Rattle.image_layout.specs.Table.{AreEntries, IsTable};
 
 use crate::repeats::first_repeated;

@@ -1,15 +1,12 @@
-ghost use Rattle.std.specs.Prelude.{◌≡◌, ◌<◌, ◌≤◌, MatchResult, length};
-ghost use Rattle.std.specs.List.{All};
+ghost use Rattle.std.specs.Prelude.{◌≡◌, ◌≤◌, MatchResult, length};
 ghost use Rattle.nesc_base.specs.Geometry.{slot_room};
 ghost use Rattle.image_layout.specs.Opens.{IsDivided};
 ghost use Rattle.image_layout.specs.Refusal.{IsRefused};
-ghost use Rattle.image_layout.specs.Slots.{Lays, laid_over};
+ghost use Rattle.slot_layout.specs.Slots.{Lays};
 
-use crate::{ImageFault, is_open, list_of};
+use crate::ImageFault;
 use nesc_base::{Block, Geometry};
-
-/// How many slots an image has.
-const SLOTS: u32 = 4;
+use slot_layout::{SLOTS, is_open, lay_over, list_of};
 
 /// Lays the slots of an image that are to be replayed over a copy of it, in the order of their numbers. `targets` is
 /// room for the targets of one slot, and holds anything afterwards.
@@ -38,15 +35,4 @@ pub fn lay_slots(
         lay_over(laid, &targets[..count as usize], fresh);
     }
     Ok(())
-}
-
-/// Puts each fresh block where its target says, for as many as there are targets.
-fn lay_over(blocks: &mut [Block], targets: &[u32], fresh: &[Block])
-    requires enough { length targets.now ≤ length fresh.now }
-    requires within { All (λ at. at < length blocks.old) targets.now }
-    ensures { blocks.new ≡ laid_over targets.now fresh.now blocks.old }
-{
-    for (i, target) in targets.iter().enumerate() {
-        blocks[*target as usize] = fresh[i];
-    }
 }

@@ -3,8 +3,8 @@ ghost use Rattle.byteorder.specs.Endian.{little_number};
 ghost use Rattle.nesc_base.specs.Geometry.{IsGeometry};
 ghost use Rattle.image_layout.specs.Super.{IsSuperblock};
 
-use crate::numbers::{number_in, put_bytes, put_number};
 use nesc_base::{Block, Geometry};
+use slot_layout::{number_in, put_bytes, put_number};
 
 /// The version of the layout.
 const VERSION: u32 = 1;
@@ -54,8 +54,8 @@ fn are_sizes(geometry: Geometry) -> bool
     ensures { IsTrue result ↔ IsGeometry geometry }
 {
     geometry.version == VERSION
-        && (16..=65_536).contains(&geometry.blocks)
-        && (64..=1_024).contains(&geometry.slack)
+        && (Geometry::LEAST_BLOCKS..=Geometry::MOST_BLOCKS).contains(&geometry.blocks)
+        && (Geometry::LEAST_SLACK..=Geometry::MOST_SLACK).contains(&geometry.slack)
 }
 
 #[cfg(test)]

@@ -5,7 +5,7 @@ ghost use Rattle.image_layout.specs.declared.table.TableEntry.{TableEntry};
 ghost use Rattle.image_layout.specs.Table.{AreEntries, Fits, IsTable, entry_bytes};
 
 use byteorder::{ByteOrder, LittleEndian};
-use nesc_base::{BLOCK_BYTES, Block, Name};
+use nesc_base::{BLOCK_BYTES, Block, LONGEST_FILE, Name};
 use std::marker::Model;
 
 /// A file as the table has it: its name, and its length in blocks, 0 to 1,048,576.
@@ -22,12 +22,14 @@ pub struct Table {
 }
 
 impl Model for Table {
-    ghost use Rattle.std.specs.Prelude.{List, Option};
+    ghost use Rattle.std.specs.Prelude.{◌≡◌, List, Option, length};
     ghost use Rattle.image_layout.specs.declared.table.TableEntry.{TableEntry};
 
     ghost Value = { List (Option TableEntry) };
 
     ghost view = { λ t. t.entries };
+
+    ghost invariant = { λ t. length t.entries ≡ 32 };
 }
 
 impl Table {
@@ -43,14 +45,16 @@ impl Table {
     /// The entry at a place, counted from 0.
     pub fn get(&self, e: u32) -> Option<TableEntry>
         requires { e < 32 }
-        ensures { slice_get self.now e ≡ Some result }
+        ensures entry { slice_get self.now e ≡ Some result }
+        ensures all { length self.now ≡ 32 }
     {
         self.entries[e as usize]
     }
 
     /// All entries, that of file 1 first.
     pub fn entries(&self) -> &[Option<TableEntry>]
-        ensures { result.now ≡ self.now }
+        ensures entries { result.now ≡ self.now }
+        ensures all { length self.now ≡ 32 }
     {
         &self.entries
     }
@@ -66,9 +70,6 @@ impl Table {
 
 // How many bytes an entry has.
 const ENTRY_BYTES: usize = 32;
-
-// How many blocks a file has at most.
-const LONGEST_FILE: u32 = 1_048_576;
 
 // The spelling of an entry.
 fn entry_bytes(entry: &Option<TableEntry>) -> [u8; ENTRY_BYTES]

@@ -7,11 +7,11 @@ use Rattle.nesc_base.specs.declared.geometry.Geometry.{Geometry}
 use Rattle.nesc_base.specs.Disk.{Goes, Known, Unchanged}
 use Rattle.image_layout.specs.declared.fault.ImageFault.{ImageFault}
 use Rattle.image_layout.specs.declared.fault.ImageFault.TheVariants.{BadSuper, BadSize, BadList, BadTable, BadOwner, TwiceOwned}
-use Rattle.image_layout.specs.Gate.{is_open}
+use Rattle.slot_layout.specs.Gate.{is_open}
 use Rattle.image_layout.specs.Owners.{MayOwn, Owner}
 use Rattle.image_layout.specs.Opens.{IsDivided}
 use Rattle.image_layout.specs.Refusal.{IsOfDivision, IsRefused}
-use Rattle.image_layout.specs.Slots.{Lays, block_at, gate}
+use Rattle.slot_layout.specs.Slots.{block_at, gate}
 use Rattle.nesc_base.specs.Geometry.{total}
 use Rattle.image_layout.proofs.OneMap.{slice_get-among}
 use Rattle.image_layout.proofs.OneFault.{opens_as_nothing}
@@ -44,18 +44,6 @@ may_all lengths blocks b owners count each k owner at =
       used = may.used;
       below = may.below;
     }
-
--- no slot is replayed
-pub lays_itself : (geometry : Geometry) (image : List Block) → is_open (gate geometry image 1) ≡ false → Lays geometry image image
-lays_itself geometry image closed = record {
-  slots = 0;
-  replayed = record {
-    most = omega arith;
-    opened = λ k from to. absurd (omega (arith, from, to));
-    closed = inr closed;
-  };
-  over = refl;
-}
 
 -- an image is divided in one way
 one_division : (image : List Block) (one other : Geometry) → IsDivided image one → IsDivided image other → one ≡ other
@@ -108,7 +96,7 @@ gate_clash image place opened closed = false≢true (sym (closed opened.geometry
 pub turned_down_once : (image : List Block) → IsTurnedDownOnce image
 turned_down_once image fault down = (
   λ files opens. ⊎_elim
-      (λ open_gate. gate_clash image open_gate.0 open_gate.1 (closed_here image opens.geometry opens.opens.says.divided opens.closed))
+      (λ open_gate. gate_clash image open_gate.0 open_gate.1 (closed_here image opens.geometry opens.opens.divided opens.closed))
       (λ refused. (opens_as_nothing image fault refused.0).0 opens.geometry files opens.places opens.opens) (cause_of image fault down),
   λ other too. ⊎_elim
       (λ one. ⊎_elim

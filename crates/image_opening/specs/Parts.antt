@@ -4,14 +4,15 @@ use Rattle.nesc_base.specs.declared.block.Block.{Block}
 use Rattle.nesc_base.specs.declared.geometry.Geometry.{Geometry}
 use Rattle.nesc_base.specs.Files.{Files}
 use Rattle.nesc_base.specs.Geometry.{map_blocks, table_at}
+use Rattle.nesc_base.specs.Places.{Places}
 use Rattle.image_layout.specs.declared.fault.ImageFault.{ImageFault}
 use Rattle.image_layout.specs.declared.fault.ImageFault.TheVariants.{BadList}
 use Rattle.image_layout.specs.declared.table.TableEntry.{TableEntry}
-use Rattle.image_layout.specs.Gate.{is_open}
-use Rattle.image_layout.specs.Opens.{IsDivided, IsMap, Opens, Places, lengths_of}
+use Rattle.slot_layout.specs.Gate.{is_open}
+use Rattle.image_layout.specs.Opens.{IsDivided, IsMap, Opens, lengths_of}
 use Rattle.image_layout.specs.Owners.{MayOwn, Owner}
 use Rattle.image_layout.specs.Refusal.{IsRefused}
-use Rattle.image_layout.specs.Slots.{block_at, gate}
+use Rattle.slot_layout.specs.Slots.{block_at, gate}
 use Rattle.image_layout.specs.Table.{IsTable}
 
 -- the parts of an image of which no slot is to be replayed: its division, the entries of its table and the owners of

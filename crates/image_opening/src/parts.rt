@@ -4,17 +4,17 @@ ghost use Rattle.nesc_base.specs.Fault.{HasCause};
 ghost use Rattle.nesc_base.specs.Geometry.{IsGeometry, table_at, total};
 ghost use Rattle.image_layout.specs.declared.fault.ImageFault.{ImageFault};
 ghost use Rattle.image_layout.specs.declared.fault.OpenFault.TheVariants.{Disk, Image};
-ghost use Rattle.image_layout.specs.Gate.{is_open};
+ghost use Rattle.slot_layout.specs.Gate.{is_open};
 ghost use Rattle.image_layout.specs.Opens.{IsDivided, IsMap, lengths_of};
-ghost use Rattle.image_layout.specs.Slots.{block_at, gate};
+ghost use Rattle.slot_layout.specs.Slots.{block_at, gate};
 ghost use Rattle.image_layout.specs.Table.{AreEntries, IsTable};
 ghost use Rattle.image_opening.specs.Parts.{AreParts, IsTurnedDown, MayAllOwn};
 
 use image_layout::{
-    ImageFault, OpenFault, Table, is_open, lengths_of, owners_of, push_owners, read_geometry,
-    table_of,
+    ImageFault, OpenFault, Table, lengths_of, owners_of, push_owners, read_geometry, table_of,
 };
 use nesc_base::{Block, Disk, FileNo, Geometry};
+use slot_layout::is_open;
 use std::alloc::Global;
 
 /// How many data blocks a map block has the owners of.

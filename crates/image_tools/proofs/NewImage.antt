@@ -1,6 +1,6 @@
 -- An image of a superblock and zeros opens with no files.
 use Rattle.std.proofs.Common.{◌≡◌, ℕ, zero, suc, ◌+◌, ◌-◌, ◌*◌, ◌<◌, ◌≤◌, List, [], ◌∷◌, ◌++◌, length, take, drop, get_or, replicate, Option, Some, None, refl, sym, ap, subst, ◌∙◌, inr, arith, false, length-append}
-use Rattle.std.specs.Prelude.{option_map, slice_get, unwrap_or}
+use Rattle.std.specs.Prelude.{IsSome, is_some, option_map, slice_get, unwrap_or}
 use Rattle.std.specs.FinMap.{empty, get, get-empty}
 use Rattle.std.specs.List.{AllByRecursion, range_with_len}
 use Rattle.std.specs.Ordering.{nat_cmp}
@@ -11,16 +11,18 @@ use Rattle.nesc_base.specs.declared.block.Block.{Block}
 use Rattle.nesc_base.specs.declared.geometry.Geometry.{Geometry}
 use Rattle.nesc_base.specs.Block.{zero_block}
 use Rattle.nesc_base.specs.Files.{File}
-use Rattle.nesc_base.specs.Geometry.{IsGeometry, area_from, map_at, map_blocks, slot_at, table_at, total}
-use Rattle.image_layout.specs.Bytes.{block_of_bytes, spelled}
-use Rattle.image_layout.specs.Gate.{is_open, open_gate}
-use Rattle.image_layout.specs.Opens.{Says, entries_in, lengths_of}
+use Rattle.nesc_base.specs.Geometry.{IsGeometry, map_at, map_blocks, slot_at, table_at, total}
+use Rattle.slot_layout.specs.Bytes.{block_of_bytes, spelled}
+use Rattle.slot_layout.specs.Gate.{is_open, open_gate}
+use Rattle.image_layout.specs.Opens.{HasParts, entries_in, lengths_of}
 use Rattle.image_layout.specs.Owners.{AreOwners, Owner, owner_block, owner_bytes}
-use Rattle.image_layout.specs.Slots.{block_at}
+use Rattle.slot_layout.specs.Slots.{Lays, block_at}
+use Rattle.nesc_base.specs.Places.{HeldAt}
+use Rattle.std.proofs.lemmas.Bool.{false≢true}
 use Rattle.image_layout.specs.Super.{superblock}
 use Rattle.image_layout.specs.Table.{AreEntries, Fits, entry_bytes, table_block}
-use Rattle.image_tools.specs.Make.{OpensAsNew, cleared, made, with_zeros}
-use Rattle.image_tools.proofs.Zeros.{block_at-set_other, block_at-set_same, block_at-with_zeros, length-with_zeros}
+use Rattle.image_tools.specs.Make.{OpensAsNew, cleared, made, cleared_at}
+use Rattle.image_tools.proofs.Zeros.{block_at-set_other, block_at-set_same, block_at-cleared_at, length-cleared_at}
 
 -- a list of nothing has no something
 none_there : {X : Type 0} (n i : ℕ) → unwrap_or (slice_get {X = Option X} (replicate n None) i) None ≡ None
@@ -87,18 +89,19 @@ pub record IsBlank (geometry : Geometry) (image : List Block) : Type 0 where
   pub table : block_at image (table_at geometry) ≡ zero_block
   pub map : (b : ℕ) → b < map_blocks geometry → block_at image (map_at geometry + b) ≡ zero_block
 
-blank_says : (geometry : Geometry) (image : List Block) → IsBlank geometry image → Says image geometry image (replicate 32 None) (replicate (128 * map_blocks geometry) None)
-blank_says geometry image blank = record {
-  divided = record { some = omega (arith, blank.enough); super = record { sizes = blank.sizes; spelling = blank.super }; enough = blank.enough };
-  lays = record {
-    slots = 0;
-    replayed = record {
-      most = omega arith;
-      opened = λ k first last. absurd (omega (arith, first, last));
-      closed = inr (ap is_open blank.gate ∙ zero_gate);
-    };
-    over = refl;
+blank_lays : (geometry : Geometry) (image : List Block) → IsBlank geometry image → Lays geometry image image
+blank_lays geometry image blank = record {
+  slots = 0;
+  replayed = record {
+    most = omega arith;
+    opened = λ k first last. absurd (omega (arith, first, last));
+    closed = inr (ap is_open blank.gate ∙ zero_gate);
   };
+  over = refl;
+}
+
+blank_parts : (geometry : Geometry) (image : List Block) → IsBlank geometry image → HasParts geometry image (replicate 32 None) (replicate (128 * map_blocks geometry) None)
+blank_parts geometry image blank = record {
   table = record { good = no_entries; spelling = blank.table ∙ zero_table };
   owned = record {
     count = length-replicate (128 * map_blocks geometry) None;
@@ -106,6 +109,9 @@ blank_says geometry image blank = record {
   };
   once = λ k owner repeats. some_nowhere (128 * map_blocks geometry) k owner repeats.0;
 }
+
+nowhere : (n : ℕ) → IsSome (get (empty {K = ℕ} {X = File} {R = nat_cmp}) n) → ⊥
+nowhere n some = let none : IsSome {T = File} None = subst IsSome (get-empty {X = File} nat_cmp n) some in false≢true none
 
 no_value : {X Y : Type 0} (f : X → Y) (o : Option X) → o ≡ None → option_map f o ≡ None
 no_value f o none = ap (option_map f) none
@@ -118,17 +124,21 @@ no_file n file is =
 blank_opens : (geometry : Geometry) (image : List Block) → IsBlank geometry image → OpensAsNew geometry image
 blank_opens geometry image blank = record {
   laid = image;
-  entries = replicate 32 None;
-  owners = replicate (128 * map_blocks geometry) None;
-  says = blank_says geometry image blank;
-  are_files = record {
-    none = get-empty nat_cmp 0;
-    named = λ e. no_value _ _ (get-empty nat_cmp (e + 1)) ∙ sym (none_there 32 e);
-    held = λ n v file block is. absurd (no_file n file is);
-  };
-  are_places = record {
-    before = λ at below. get-empty nat_cmp at;
-    each = λ k. get-empty nat_cmp (area_from geometry + k) ∙ sym (no_value _ _ (none_there (128 * map_blocks geometry) k));
+  divided = record { some = omega (arith, blank.enough); super = record { sizes = blank.sizes; spelling = blank.super }; enough = blank.enough };
+  lays = blank_lays geometry image blank;
+  has = record {
+    entries = replicate 32 None;
+    owners = replicate (128 * map_blocks geometry) None;
+    parts = blank_parts geometry image blank;
+    are_files = record {
+      none = get-empty nat_cmp 0;
+      named = λ e. no_value _ _ (get-empty nat_cmp (e + 1)) ∙ sym (none_there 32 e);
+      held = λ n v file block is. absurd (no_file n file is);
+    };
+    are_places = record {
+      filed = λ n. ap is_some (get-empty {X = HeldAt} nat_cmp n) ∙ sym (ap is_some (get-empty {X = File} nat_cmp n));
+      each = λ n v at stands. absurd (nowhere n stands);
+    };
   };
 }
 
@@ -141,8 +151,8 @@ length-cleared geometry =
 -- such is the image that is made
 made_at : (geometry : Geometry) (image : List Block) (i at : ℕ) → i < 6 + map_blocks geometry → get_or (cleared geometry) i 0 ≡ at → 1 ≤ at → block_at (made geometry image) at ≡ zero_block
 made_at geometry image i at within is behind =
-    block_at-set_other (with_zeros (cleared geometry) image) 0 at (superblock geometry) (λ same. omega (arith, same))
-    ∙ block_at-with_zeros (cleared geometry) image i at (omega (arith, length-cleared geometry)) is
+    block_at-set_other (cleared_at (cleared geometry) image) 0 at (superblock geometry) (λ same. omega (arith, same))
+    ∙ block_at-cleared_at (cleared geometry) image i at (omega (arith, length-cleared geometry)) is
 
 map_place : (geometry : Geometry) (b : ℕ) → b < map_blocks geometry → get_or (cleared geometry) (suc (suc (suc (suc (suc b))))) 0 ≡ map_at geometry + b
 map_place geometry b below =
@@ -152,8 +162,8 @@ map_place geometry b below =
 
 made_is_blank : (geometry : Geometry) (image : List Block) → IsGeometry geometry → total geometry ≤ length image → IsBlank geometry (made geometry image)
 made_is_blank geometry image sizes enough =
-    let base : List Block = with_zeros (cleared geometry) image in
-    let base_length : length base ≡ length image = length-with_zeros (cleared geometry) image in
+    let base : List Block = cleared_at (cleared geometry) image in
+    let base_length : length base ≡ length image = length-cleared_at (cleared geometry) image in
     record {
       sizes = sizes;
       enough = omega (arith, base_length, length-set base 0 (superblock geometry));

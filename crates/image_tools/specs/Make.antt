@@ -1,16 +1,16 @@
 -- What a new image is, and what it is to make one.
-use Rattle.std.specs.Prelude.{◌≡◌, ◌⊎◌, ℕ, ◌-◌, ◌<◌, List, [], ◌∷◌, ◌++◌, slice_set, true, Result, OnOk, IsErr}
+use Rattle.std.specs.Prelude.{◌≡◌, ◌⊎◌, ℕ, ◌-◌, ◌≤◌, List, [], ◌∷◌, ◌++◌, slice_set, true, Result, OnOk, IsErr}
 use Rattle.std.specs.List.{range_with_len}
 use Rattle.std.specs.FinMap.{empty}
 use Rattle.nesc_base.specs.declared.block.Block.{Block}
 use Rattle.nesc_base.specs.declared.disk.DiskFault.{DiskFault}
 use Rattle.nesc_base.specs.declared.geometry.Geometry.{Geometry}
 use Rattle.nesc_base.specs.Block.{zero_block}
-use Rattle.nesc_base.specs.Disk.{Goes, IsSettled, Known, Leaves, last}
+use Rattle.nesc_base.specs.Disk.{Goes, IsSettled, Known, LeavesSince, WritesAt}
 use Rattle.nesc_base.specs.Fault.{HasCause}
 use Rattle.nesc_base.specs.Geometry.{map_at, map_blocks, slot_at, table_at, total}
 use Rattle.image_layout.specs.Opens.{Opens}
-use Rattle.image_layout.specs.Slots.{block_at}
+use Rattle.slot_layout.specs.Slots.{block_at}
 use Rattle.image_layout.specs.Super.{IsSuperblock, superblock}
 
 -- the gates of the four slots
@@ -23,39 +23,42 @@ abbrev pub cleared : Geometry → List ℕ
 cleared geometry = gates geometry ++ table_at geometry ∷ range_with_len (map_at geometry) (map_blocks geometry) ++ (total geometry - 1) ∷ []
 
 -- the image with zeros at these places
-abbrev pub with_zeros : List ℕ → List Block → List Block
-with_zeros [] image = image
-with_zeros (at ∷ places) image = with_zeros places (slice_set image at zero_block)
+abbrev pub cleared_at : List ℕ → List Block → List Block
+cleared_at [] image = image
+cleared_at (at ∷ places) image = cleared_at places (slice_set image at zero_block)
 
 -- the image that is made of this one: every other block stays
 abbrev pub made : Geometry → List Block → List Block
-made geometry image = slice_set (with_zeros (cleared geometry) image) 0 (superblock geometry)
+made geometry image = slice_set (cleared_at (cleared geometry) image) 0 (superblock geometry)
 
 -- a new image has no files
 abbrev pub OpensAsNew : Geometry → List Block → Type 0
 OpensAsNew geometry image = Opens image geometry empty empty
 
--- block 0 is as it was left before
-abbrev pub StartsAs : (List Block → Type 0) → List Block → Type 0
-StartsAs left image = (before : List Block) × left before × (block_at image 0 ≡ block_at before 0)
+-- block 0 is as the disk read there before, unless it was unsynced then and may be anything
+abbrev pub StartsAs : Known → List Block → Type 0
+StartsAs old image = ¬ old.unsynced 0 → block_at image 0 ≡ block_at old.contents 0
 
--- While an image is made, a stop leaves block 0 as it was left before, or torn; and if it is the new superblock, the
--- image opens.
-abbrev pub OpensWhereMade : Geometry → (List Block → Type 0) → List Block → Type 0
-OpensWhereMade geometry left image = StartsAs left image ⊎ (IsSuperblock (block_at image 0) geometry → OpensAsNew geometry image)
+-- while an image is made, a stop leaves one that starts as before, or that opens if it has the new superblock
+abbrev pub OpensWhereMade : Geometry → Known → List Block → Type 0
+OpensWhereMade geometry old image = StartsAs old image ⊎ (IsSuperblock (block_at image 0) geometry → OpensAsNew geometry image)
 
--- from old to new zeros were written at these places, none of them 0, up to the first that failed
+-- a block behind block 0
+abbrev pub IsBehind : ℕ → Type 0
+IsBehind at = 1 ≤ at
+
+-- from old to new zeros were written at these places, all of them behind block 0, up to the first that failed
 pub record Clears (places : List ℕ) (old new : Known) (result : Result (Unit {0}) DiskFault) : Type 0 where
   pub goes : Goes old new
-  pub zeros : old.tells ≡ true → OnOk result (new.contents ≡ with_zeros places old.contents)
-  pub start : Leaves (λ _. StartsAs (old.left old.clock)) old new
+  pub zeros : old.tells ≡ true → OnOk result (new.contents ≡ cleared_at places old.contents)
+  pub writes : WritesAt IsBehind old new
   pub cause : HasCause old.faults new.faults (IsErr result)
 
 -- from old to new an image was made, up to the first call that failed
 pub record Makes (geometry : Geometry) (old new : Known) (result : Result (Unit {0}) DiskFault) : Type 0 where
   pub goes : Goes old new
   pub made : old.tells ≡ true → OnOk result (new.contents ≡ made geometry old.contents)
-  pub settled : old.tells ≡ true → new.clock < last → OnOk result (IsSettled new)
+  pub settled : old.tells ≡ true → OnOk result (IsSettled new)
   pub opens : old.tells ≡ true → OnOk result (OpensAsNew geometry new.contents)
-  pub any_moment : Leaves (λ _. OpensWhereMade geometry (old.left old.clock)) old new
+  pub any_moment : LeavesSince (λ _. OpensWhereMade geometry old) old new
   pub cause : HasCause old.faults new.faults (IsErr result)

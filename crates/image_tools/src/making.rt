@@ -1,6 +1,6 @@
 ghost use Rattle.std.specs.Prelude.{◌≡◌, ◌<◌, ◌≤◌, ℕ, ◌-◌, [], ◌∷◌, IfOk, OnOk, IsErrOf, true};
 ghost use Rattle.std.specs.List.{range_with_len};
-ghost use Rattle.nesc_base.specs.Disk.{Goes, IsSettled, Leaves, Unchanged, last};
+ghost use Rattle.nesc_base.specs.Disk.{Goes, IsSettled, LeavesSince, Unchanged};
 ghost use Rattle.nesc_base.specs.Fault.{HasCause};
 ghost use Rattle.nesc_base.specs.Geometry.{IsGeometry, total};
 ghost use Rattle.image_tools.specs.Make.{Clears, Makes, OpensAsNew, OpensWhereMade, cleared, gates, made};
@@ -36,11 +36,11 @@ pub fn make<D: Disk>(disk: &mut D, geometry: Geometry) -> Result<u32, MakeFault>
     ensures made { (D.known disk.old).tells ≡ true → OnOk result ((D.known disk.new).contents ≡ made geometry (D.known disk.old).contents) }
 
     // A stop after it leaves this image alone, and it opens with no files.
-    ensures settled { (D.known disk.old).tells ≡ true → (D.known disk.new).clock < last → OnOk result (IsSettled (D.known disk.new)) }
+    ensures settled { (D.known disk.old).tells ≡ true → OnOk result (IsSettled (D.known disk.new)) }
     ensures opens { (D.known disk.old).tells ≡ true → OnOk result (OpensAsNew geometry (D.known disk.new).contents) }
 
-    // So does one that has the new superblock after a stop on the way.
-    ensures any_moment { Leaves (λ _. OpensWhereMade geometry ((D.known disk.old).left (D.known disk.old).clock)) (D.known disk.old) (D.known disk.new) }
+    // So does one that has the new superblock after a stop on the way, unless it starts as before.
+    ensures any_moment { LeavesSince (λ _. OpensWhereMade geometry (D.known disk.old)) (D.known disk.old) (D.known disk.new) }
 
     ensures small { (D.known disk.old).size < total geometry → IsErrOf result (BadSize (D.known disk.old).size) }
     ensures only { (block : ℕ) → IsErrOf result (BadSize block) → (D.known disk.old).size < total geometry }

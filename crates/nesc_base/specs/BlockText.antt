@@ -15,6 +15,10 @@ times (suc n) bytes = bytes ++ times n bytes
 unfoldable pub repeated : List ℕ → Block
 repeated bytes = record { 0 = times 128 bytes }
 
+-- the eight bytes that a block repeats, if it does
+abbrev pub period_of : Block → Option (List ℕ)
+period_of block = if bytes_eq block.0 (repeated (take 8 block.0)).0 then Some (take 8 block.0) else None
+
 -- `z`, or the 16 digits of eight bytes that repeat, or the 2048 digits of all bytes: the shortest that is right
 unfoldable pub block_text : Block → List ℕ
 block_text block =
@@ -23,8 +27,8 @@ block_text block =
     else encode_lower block.0
 
 -- the block whose text it is, in digits of either case; no other text is a block's
-unfoldable pub block_of : List ℕ → Option Block
-block_of text =
+unfoldable pub block_of_text : List ℕ → Option Block
+block_of_text text =
     if bytes_eq text (codes "z") then Some zero_block
     else if length text == 16 then option_map repeated (result_ok (decode_of text))
     else if length text == 2048 then option_map (λ bytes. record { 0 = bytes }) (result_ok (decode_of text))

@@ -1,9 +1,14 @@
 -- When a thing of the outside may say that it failed.
-use Rattle.std.specs.Prelude.{◌≡◌, ℕ, ◌<◌, ◌≤◌, ◌⊎◌}
+use Rattle.std.specs.Prelude.{ℕ, ◌+◌, ◌≤◌, ◌⊎◌}
+use Rattle.nesc_base.specs.Count.{count_end}
 
--- the count of failures rose from the one to the other, or stands where it can rise no more
+-- The count rose by so much or more, or stands where it can rise no more. Over several calls these add up.
+abbrev pub RoseBy : ℕ → ℕ → ℕ → Type 0
+RoseBy n before after = (before + n ≤ after) ⊎ (count_end ≤ after)
+
+-- it rose
 abbrev pub Rose : ℕ → ℕ → Type 0
-Rose before after = (before < after) ⊎ (after ≡ 18446744073709551615)
+Rose = RoseBy 1
 
 -- the count never falls, and a failure is told only where it rose
 pub record HasCause (before after : ℕ) (failed : Type 0) : Type 0 where

@@ -9,9 +9,9 @@ Appends None new bytes = Unit {0}
 Appends (Some old) new bytes = new ≡ Some (old ++ bytes)
 
 -- none of these bytes was taken, though there are some
-abbrev pub IsRefused : List ℕ → Result ℕ WriteFault → Type 0
-IsRefused bytes (Ok n) = (n ≡ 0) × (0 < length bytes)
-IsRefused bytes (Err e) = Unit {0}
+abbrev pub TakesNone : List ℕ → Result ℕ WriteFault → Type 0
+TakesNone bytes (Ok n) = (n ≡ 0) × (0 < length bytes)
+TakesNone bytes (Err e) = Unit {0}
 
 -- A sink that hands its bytes on is lent the sink behind it: by which loans, and what that one has taken, where it
 -- tells it.

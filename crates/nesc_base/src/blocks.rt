@@ -1,26 +1,41 @@
-ghost use Rattle.std.specs.Prelude.{◌≡◌, ◌<◌, ◌≤◌, IfOk, List, length, replicate, slice_get, slice_set};
+ghost use Rattle.std.specs.Prelude.{◌≡◌, ◌<◌, ◌≤◌, IfOk, Some, length, replicate, slice_get, slice_set};
 ghost use Rattle.nesc_base.specs.Block.{zero_block};
-ghost use Rattle.nesc_base.specs.declared.block.Block.{Block};
 
-use crate::{Block, NoMemory};
+use crate::{Block, NoMemory, PERIOD_BYTES};
 use std::alloc::Global;
 use std::marker::Model;
 
 /// How many blocks one request, put, map or get has at most.
-pub const MOST_BLOCKS: u32 = 64;
+pub const MOST_IN_REQUEST: u32 = 64;
+
+/// How a block is kept: by the eight bytes that it repeats, or as one of those that are kept in full, by its place
+/// among them.
+#[derive(Clone, Copy, Debug)]
+enum Form {
+    Repeats([u8; PERIOD_BYTES]),
+    Full(u8),
+}
 
 /// The blocks of one request or command: 1 to 64 of them.
+///
+/// The memory for all of them is asked for once. Of that only what they were given is touched: eight bytes for a
+/// block that repeats them, as a block of zeros does, and 1024 for any other.
 #[derive(Debug, Drop)]
 pub struct Blocks {
-    items: Vec<Block>,
+    forms: Vec<Form>,
+    full: Vec<Block>,
 }
 
 impl Model for Blocks {
+    ghost use Rattle.std.specs.Prelude.{List, vec_capacity};
+    ghost use Rattle.nesc_base.specs.declared.block.Block.{Block};
+    ghost use Rattle.nesc_base.specs.Blocks.{AreKept, blocks_in};
+
     ghost Value = { List Block };
 
-    ghost view = { λ b. b.items.items };
+    ghost view = { λ b. blocks_in b.forms.items b.full.items };
 
-    ghost invariant = { λ b. (1 ≤ length b.items.items) × (length b.items.items ≤ 64) };
+    ghost invariant = { λ b. AreKept b.forms.items b.full.items (vec_capacity b.full) };
 }
 
 impl Blocks {
@@ -30,8 +45,10 @@ impl Blocks {
         requires within { n ≤ 64 }
         ensures { IfOk result (λ blocks. blocks ≡ replicate n zero_block) }
     {
+        let zeros = Form::Repeats([0; PERIOD_BYTES]);
         Ok(Blocks {
-            items: vec![in alloc; Block::zero(); n as usize]?,
+            forms: vec![in alloc; zeros; n as usize]?,
+            full: Vec::with_capacity(alloc, n as usize)?,
         })
     }
 
@@ -41,15 +58,18 @@ impl Blocks {
         ensures some { 1 ≤ result }
         ensures within { result ≤ 64 }
     {
-        self.items.len() as u32
+        self.forms.len() as u32
     }
 
     /// The block at a place, counted from 0.
-    pub fn get(&self, k: u32) -> &Block
+    pub fn get(&self, k: u32) -> Block
         requires { k < length self.now }
-        ensures { slice_get self.now k ≡ Some result.now }
+        ensures { slice_get self.now k ≡ Some result }
     {
-        &self.items[k as usize]
+        match &self.forms[k as usize] {
+            Form::Repeats(bytes) => Block::repeated(bytes),
+            Form::Full(i) => self.full[usize::from(*i)],
+        }
     }
 
     /// Puts a copy of the block at a place, counted from 0.
@@ -57,6 +77,15 @@ impl Blocks {
         requires { k < length self.old }
         ensures { self.new ≡ slice_set self.old k block.now }
     {
-        self.items[k as usize] = *block;
+        if let Form::Full(i) = self.forms[k as usize] {
+            self.full[usize::from(i)] = *block;
+            return;
+        }
+        if let Some(bytes) = block.period() {
+            self.forms[k as usize] = Form::Repeats(bytes);
+            return;
+        }
+        self.forms[k as usize] = Form::Full(self.full.len() as u8);
+        self.full.push_reserved(*block);
     }
 }

@@ -1,5 +1,6 @@
-ghost use Rattle.std.specs.Prelude.{◌≡◌, ◌<◌, ◌≤◌, ℕ, List, OnOk, OnErr, IsErr, Some, length, slice_get, slice_set, true};
-ghost use Rattle.nesc_base.specs.Disk.{Adds, Goes, IsSettled, Known, TornFrom, Unchanged};
+ghost use Rattle.std.specs.Prelude.{◌≡◌, ◌<◌, ◌≤◌, ℕ, List, OnOk, IsErr, Some, length, slice_get, slice_set, true};
+ghost use Rattle.nesc_base.specs.Count.{count_end};
+ghost use Rattle.nesc_base.specs.Disk.{CouldLeave, Goes, IsSettled, Known, Unchanged, WritesAt, here, nowhere};
 ghost use Rattle.nesc_base.specs.Fault.{HasCause, Rose};
 ghost use Rattle.nesc_base.specs.declared.block.Block.{Block};
 
@@ -16,7 +17,7 @@ pub struct DiskFault;
 /// a stop leaves what the disk reads as.
 ///
 /// The clock tells the moments of a stop apart. It rises as a write begins and as a sync ends, and stands still at
-/// 2^64 - 1; of that value nothing is said but what holds of every one.
+/// 2^64 - 1; of what a stop leaves at that value nothing is said.
 pub trait Disk {
     /// What is known of the disk.
     ghost known: { Self → Known };
@@ -46,35 +47,34 @@ pub trait Disk {
     fn write(&mut self, at: u32, from: &Block) -> Result<(), DiskFault>
         requires { at < (known self.old).size }
         ensures written { (known self.old).tells ≡ true → OnOk result ((known self.new).contents ≡ slice_set (known self.old).contents at from.now) }
-        ensures failed { (known self.old).tells ≡ true → OnErr result ((b : Block) × ((known self.new).contents ≡ slice_set (known self.old).contents at b)) }
-        ensures torn { Adds (λ _. TornFrom at ((known self.old).left (known self.old).clock)) (known self.old) (known self.new) }
+        ensures writes { WritesAt (here at) (known self.old) (known self.new) }
         ensures rises { Rose (known self.old).clock (known self.new).clock }
         ensures goes { Goes (known self.old) (known self.new) }
         ensures keeps { keeps self.old self.new }
         ensures cause { HasCause (known self.old).faults (known self.new).faults (IsErr result) };
 
-    /// Makes sure of what was written: once it has succeeded a stop leaves what the disk reads as. What a stop
-    /// leaves while it runs, and after an `Err`, could be left before.
+    /// Makes sure of what was written: once it has succeeded a stop leaves what the disk reads as. An `Err` need not
+    /// have made sure of anything, and has undone nothing.
     fn sync(&mut self) -> Result<(), DiskFault>
         ensures contents { (known self.old).tells ≡ true → (known self.new).contents ≡ (known self.old).contents }
-        ensures settled { (known self.old).tells ≡ true → (known self.old).clock < (known self.new).clock → OnOk result (IsSettled (known self.new)) }
-        ensures no_other { Adds (λ _. (known self.old).left (known self.old).clock) (known self.old) (known self.new) }
+        ensures settled { (known self.old).tells ≡ true → OnOk result (IsSettled (known self.new)) }
+        ensures writes { WritesAt nowhere (known self.old) (known self.new) }
         ensures rises { Rose (known self.old).clock (known self.new).clock }
         ensures goes { Goes (known self.old) (known self.new) }
         ensures keeps { keeps self.old self.new }
         ensures cause { HasCause (known self.old).faults (known self.new).faults (IsErr result) };
 
     /// A disk as it reads is one of its images now.
-    ghost reads_as_left: { (d : Self) → (known d).tells ≡ true → (known d).left (known d).clock (known d).contents };
+    ghost reads_as_left: { (d : Self) → (known d).tells ≡ true → (known d).clock < count_end → (known d).left (known d).clock (known d).contents };
 
     /// It reads as all its blocks.
     ghost reads_whole: { (d : Self) → (known d).tells ≡ true → length (known d).contents ≡ (known d).size };
 
-    /// Every image has all its blocks.
-    ghost left_whole: { (d : Self) (k : ℕ) (image : List Block) → (known d).tells ≡ true → (known d).left k image → length image ≡ (known d).size };
+    /// An image now differs from what the disk reads as only where it is unsynced.
+    ghost left_now: { (d : Self) (image : List Block) → (known d).tells ≡ true → (known d).clock < count_end → (known d).left (known d).clock image → CouldLeave (known d) image };
 
     /// At a clock value to come nothing is left yet.
-    ghost left_by_now: { (d : Self) (k : ℕ) (image : List Block) → (known d).tells ≡ true → (known d).left k image → k ≤ (known d).clock };
+    ghost left_by_now: { (d : Self) (k : ℕ) (image : List Block) → (known d).tells ≡ true → k < count_end → (known d).left k image → k ≤ (known d).clock };
 
     /// What stays from one call to the next stays over any number of them.
     ghost keeps_itself: { (d : Self) → keeps d d };

@@ -14,6 +14,18 @@ pub struct Geometry {
 }
 
 impl Geometry {
+    /// How few data blocks there may be.
+    pub const LEAST_BLOCKS: u32 = 16;
+
+    /// How many data blocks there may be.
+    pub const MOST_BLOCKS: u32 = 65_536;
+
+    /// How few data blocks may be changed between two commits.
+    pub const LEAST_SLACK: u32 = 64;
+
+    /// How many data blocks may be changed between two commits.
+    pub const MOST_SLACK: u32 = 1_024;
+
     /// How many blocks the table has.
     fn table_blocks(&self) -> u32
         ensures { result ≡ geo.table_blocks self.now }

@@ -4,28 +4,28 @@
 mod block;
 mod blocks;
 mod disk;
+mod files;
 mod geometry;
-mod host;
 mod memory;
 mod name;
+mod no_memory;
 mod numbers;
-mod request;
+mod runs;
 mod sink;
 mod source;
-mod word;
 
-pub use block::{BLOCK_BYTES, Block};
-pub use blocks::{Blocks, MOST_BLOCKS};
+pub use block::{BLOCK_BYTES, Block, PERIOD_BYTES};
+pub use blocks::{Blocks, MOST_IN_REQUEST};
 pub use disk::{Disk, DiskFault};
+pub use files::{LONGEST_FILE, MOST_FILES};
 pub use geometry::Geometry;
-pub use host::{HostAnswer, HostCommand};
-pub use memory::NoMemory;
+pub use memory::{Memory, NODE_WORDS};
 pub use name::{LONGEST_NAME, Name};
+pub use no_memory::NoMemory;
 pub use numbers::{FileNo, FnNo};
-pub use request::{End, Kind, Miss, Queued, Reply, Request};
+pub use runs::{Area, Run, Runs};
 pub use sink::{Sink, WriteFault};
 pub use source::{ReadFault, Source};
-pub use word::Word;
 
 #[cfg(test)]
 mod tests;

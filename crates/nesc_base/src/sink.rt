@@ -1,6 +1,6 @@
 ghost use Rattle.std.specs.Prelude.{◌≡◌, ℕ, ◌<◌, ◌≤◌, List, Option, IfOk, OnErr, length, take};
 ghost use Rattle.nesc_base.specs.Fault.{HasCause};
-ghost use Rattle.nesc_base.specs.Sink.{Appends, IsRefused, Lent, StaysLent, not_lent};
+ghost use Rattle.nesc_base.specs.Sink.{Appends, TakesNone, Lent, StaysLent, not_lent};
 
 /// A sink failed to take bytes.
 #[derive(Clone, Copy, Debug, PartialEq, Eq)]
@@ -24,5 +24,5 @@ pub trait Sink {
         ensures first { IfOk result (λ n. Appends (taken self.old) (taken self.new) (take n from.now)) }
         ensures none { OnErr result (taken self.new ≡ taken self.old) }
         ensures lent { StaysLent (lent self.old) (lent self.new) }
-        ensures cause { HasCause (faults self.old) (faults self.new) (IsRefused from.now result) };
+        ensures cause { HasCause (faults self.old) (faults self.new) (TakesNone from.now result) };
 }

@@ -1,4 +1,4 @@
-use crate::{Block, Blocks, Geometry, LONGEST_NAME, Name};
+use crate::{BLOCK_BYTES, Block, Blocks, Geometry, LONGEST_NAME, Name};
 use std::test::Fail;
 
 #[test]
@@ -13,13 +13,45 @@ fn names(rt: HostRuntime) {
     }
 }
 
+/// A block of each form in which one may be kept: zeros, eight bytes that repeat, eight that do so but for the last
+/// byte, and bytes that do not repeat.
+fn forms() -> [Block; 4] {
+    let eight = Block::repeated(b"01234567");
+    let mut torn = eight;
+    torn.0[BLOCK_BYTES - 1] = 0;
+    let mut rising = Block::zero();
+    for (k, byte) in rising.0.iter_mut().enumerate() {
+        *byte = (k % 256) as u8;
+    }
+    [Block::zero(), eight, torn, rising]
+}
+
+fn put(blocks: &mut Blocks, k: u32, block: &Block) {
+    if k < blocks.len() {
+        blocks.set(k, block);
+    }
+}
+
+fn holds(blocks: &Blocks, k: u32, block: &Block) -> bool {
+    k < blocks.len() && blocks.get(k) == *block
+}
+
 #[test]
-fn blocks(rt: HostRuntime) -> Result<(), Fail> {
-    let mut blocks = Blocks::zeros(rt.alloc(), 64).ok().ok_or("memory")?;
+fn blocks_of_each_form_are_given_back(rt: HostRuntime) -> Result<(), Fail> {
+    let forms = forms();
+    // A buffer of which the last four blocks are filled, each in each form after another.
+    let mut blocks = Blocks::zeros(rt.alloc(), 64)?;
+    for shift in 0..4 {
+        for k in 0..4 {
+            put(&mut blocks, 60 + k, &forms[(k as usize + shift) % 4]);
+        }
+        for k in 0..4 {
+            let want = &forms[(k as usize + shift) % 4];
+            assert!(rt; holds(&blocks, 60 + k, want), "{k} by {shift}");
+        }
+    }
     assert_eq!(rt; blocks.len(), 64);
-    blocks.set(63, &Block([7; 1024]));
-    assert_eq!(rt; blocks.get(62).0[1023], 0);
-    assert_eq!(rt; blocks.get(63).0[1023], 7);
+    assert!(rt; holds(&blocks, 59, &Block::zero()));
     Ok(())
 }
 

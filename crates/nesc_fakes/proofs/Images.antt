@@ -1,16 +1,17 @@
 -- What a stop leaves of a disk in memory, from one call to the next.
-use Rattle.std.proofs.Common.{◌≡◌, ◌≢◌, ℕ, zero, suc, ◌<◌, ◌≤◌, inl, inr, Bool, true, false, ◌&&◌, cond, List, [], ◌∷◌, ◌++◌, length, Some, Contains, All, slice_get, slice_set, slice_index_or, refl, sym, ◌∙◌, ap, subst, arith}
+use Rattle.std.proofs.Common.{◌≡◌, ◌≢◌, ℕ, zero, suc, ◌<◌, ◌≤◌, ◌⊎◌, inl, inr, Bool, true, false, ◌&&◌, cond, List, [], ◌∷◌, ◌++◌, length, Contains, All, slice_set, slice_index_or, refl, sym, ◌∙◌, ap, subst, arith}
+use Rattle.std.specs.Prelude.{◌↔◌}
 use Rattle.std.proofs.lemmas.Bool.{cond-true, cond-false, lt-ltb, le-ltb, le-leb, lt-leb, eq-eqb, ne_eqb, cases_eq, and_left}
-use Rattle.std.proofs.lemmas.List.{length-set, set-get_or, append-nil}
-use Rattle.std.proofs.lemmas.List.Elements.{All-head, All-tail}
-use Rattle.std.proofs.lemmas.Option.{slice_get-get_or, same_Some}
+use Rattle.std.proofs.lemmas.List.{length-set, append-nil}
+use Rattle.std.proofs.lemmas.List.Elements.{All-head, All-tail, Contains-append_right}
 use Rattle.std.proofs.lemmas.Map.Made.{Contains-tail}
 use Rattle.nesc_base.specs.declared.block.Block.{Block}
-use Rattle.nesc_base.specs.Disk.{last, Goes, Adds, IsSettled, TornFrom}
-use Rattle.nesc_fakes.specs.Count.{risen}
+use Rattle.nesc_base.specs.Count.{count_end, risen}
+use Rattle.nesc_base.specs.Disk.{DiffersAt, Goes, IsSettled, OrUnsynced, WritesAt, here, nowhere}
+use Rattle.nesc_base.proofs.Differing.{differs_itself, differs_on, differs_set, differs_wider}
 use Rattle.nesc_fakes.specs.declared.mem_disk.Call.{Call}
 use Rattle.nesc_fakes.specs.declared.mem_disk.Call.TheVariants.{Write, Sync}
-use Rattle.nesc_fakes.specs.MemDisk.{MemDiskState, clock_of, IsSound, without, taken_back, contents_at, unsynced_by, unsynced, IsImage, IsLeft, known_of}
+use Rattle.nesc_fakes.specs.MemDisk.{MemDiskState, clock_of, IsSound, without, taken_back, contents_at, unsynced_by, unsynced, IsLeft, known_of}
 use Rattle.nesc_fakes.specs.MemDiskLaws.{contents_at_now}
 
 -- ---- calls one behind the other
@@ -52,38 +53,19 @@ unsynced_by_later k (Sync clock done) places lt = cond-false _ _ _ (and_left _ d
 
 -- ---- lists
 
-module _ {X : Type 0} where
-  slice_get-set_same : (xs : List X) (i : ℕ) (x : X) → i < length xs → slice_get (slice_set xs i x) i ≡ Some x
-  slice_get-set_same [] i x lt = absurd (omega arith)
-  slice_get-set_same (y ∷ xs) zero x lt = refl
-  slice_get-set_same (y ∷ xs) (suc i) x lt = slice_get-set_same xs i x (omega arith)
+set_back : {X : Type 0} (xs : List X) (i : ℕ) (x d : X) → slice_set (slice_set xs i x) i (slice_index_or xs i d) ≡ xs
+set_back [] i x d = refl
+set_back (y ∷ xs) zero x d = refl
+set_back {X} (y ∷ xs) (suc i) x d = ap (λ (ys : List X). y ∷ ys) (set_back xs i x d)
 
-  slice_get-set_other : (xs : List X) (i j : ℕ) (x : X) → j ≢ i → slice_get (slice_set xs i x) j ≡ slice_get xs j
-  slice_get-set_other [] i j x ne = refl
-  slice_get-set_other (y ∷ xs) zero zero x ne = absurd (ne refl)
-  slice_get-set_other (y ∷ xs) zero (suc j) x ne = refl
-  slice_get-set_other (y ∷ xs) (suc i) zero x ne = refl
-  slice_get-set_other (y ∷ xs) (suc i) (suc j) x ne = slice_get-set_other xs i j x (λ same. ne (ap suc same))
-
-  pub set_back : (xs : List X) (i : ℕ) (x d : X) → slice_set (slice_set xs i x) i (slice_index_or xs i d) ≡ xs
-  set_back [] i x d = refl
-  set_back (y ∷ xs) zero x d = refl
-  set_back (y ∷ xs) (suc i) x d = ap (λ (ys : List X). y ∷ ys) (set_back xs i x d)
-
-  same_by_places : (xs ys : List X) → length xs ≡ length ys → ((i : ℕ) → slice_get xs i ≡ slice_get ys i) → xs ≡ ys
-  same_by_places [] [] as_long each = refl
-  same_by_places [] (y ∷ ys) as_long each = absurd (omega arith)
-  same_by_places (x ∷ xs) [] as_long each = absurd (omega arith)
-  same_by_places (x ∷ xs) (y ∷ ys) as_long each =
-      let tail = same_by_places xs ys (omega arith) (λ i. each (suc i)) in
-      let head : x ≡ y = same_Some x y (each zero) in
-      cc
+pub none_in : (i : ℕ) → ¬ Contains {X = ℕ} [] i
+none_in i found = absurd (omega (arith, found.1))
 
 -- ---- from a disk to what follows it, by a call or by none that is kept
 
 pub record Follows (old new : MemDiskState) (later : List Call) : Type 0 where
   pub sound : IsSound old.blocks old.calls old.clock
-  pub bound : old.clock ≤ last
+  pub bound : old.clock ≤ count_end
   pub clock : new.clock ≡ risen old.clock
   pub calls : new.calls ≡ old.calls ++ later
   pub size : length new.blocks ≡ length old.blocks
@@ -91,7 +73,7 @@ pub record Follows (old new : MemDiskState) (later : List Call) : Type 0 where
   pub hidden : (k : ℕ) (places : List ℕ) → k < new.clock → unsynced k later places ≡ places
 
 module _ (old new : MemDiskState) (later : List Call) (follows : Follows old new later) where
-  same_contents : (k : ℕ) → k ≤ old.clock → k < last → contents_at new k ≡ contents_at old k
+  same_contents : (k : ℕ) → k ≤ old.clock → k < count_end → contents_at new k ≡ contents_at old k
   same_contents k le lt =
       let before : k < new.clock = omega (arith, follows.clock) in
       let not_now : k ≢ new.clock = omega arith in
@@ -106,7 +88,7 @@ module _ (old new : MemDiskState) (later : List Call) (follows : Follows old new
         | inr earlier ↦ sym (cond-false _ _ _ (ne_eqb k old.clock earlier))
       ]
 
-  same_unsynced : (k : ℕ) → k ≤ old.clock → k < last → unsynced k new.calls [] ≡ unsynced k old.calls []
+  same_unsynced : (k : ℕ) → k ≤ old.clock → k < count_end → unsynced k new.calls [] ≡ unsynced k old.calls []
   same_unsynced k le lt =
       let before : k < new.clock = omega (arith, follows.clock) in
       ap (λ (calls : List Call). unsynced k calls []) follows.calls ∙ unsynced-append k old.calls later [] ∙ follows.hidden k _ before
@@ -120,10 +102,13 @@ module _ (old new : MemDiskState) (later : List Call) (follows : Follows old new
     over = λ _ k image le lt.
         let contents = same_contents k le lt in
         let places = same_unsynced k le lt in (
-          (λ left. record { by_now = le; left = subst (λ cs. IsImage cs (unsynced k old.calls []) image) contents (subst (λ ps. IsImage (contents_at new k) ps image) places left.left) }),
+          (λ left. record {
+            by_now = le;
+            left = subst (λ cs. DiffersAt (Contains (unsynced k old.calls [])) cs image) contents (subst (λ ps. DiffersAt (Contains ps) (contents_at new k) image) places left.left);
+          }),
           (λ left. record {
             by_now = omega (arith, follows.clock, follows.bound);
-            left = subst (λ ps. IsImage (contents_at new k) ps image) (sym places) (subst (λ cs. IsImage cs (unsynced k old.calls []) image) (sym contents) left.left);
+            left = subst (λ ps. DiffersAt (Contains ps) (contents_at new k) image) (sym places) (subst (λ cs. DiffersAt (Contains (unsynced k old.calls [])) cs image) (sym contents) left.left);
           }),
         );
   }
@@ -132,43 +117,50 @@ module _ (old new : MemDiskState) (later : List Call) (follows : Follows old new
   abbrev places_now : List ℕ
   places_now = unsynced new.clock later (unsynced old.clock old.calls [])
 
-  left_now : (k : ℕ) (image : List Block) → old.clock < k → IsLeft new k image → IsImage new.blocks places_now image
-  left_now k image past left =
-      let now : k ≡ new.clock = omega (arith, left.by_now, follows.clock) in
-      let contents : contents_at new k ≡ new.blocks = cond-true _ _ _ (eq-eqb k new.clock now) in
-      let places : unsynced k new.calls [] ≡ places_now =
-      ap (λ (calls : List Call). unsynced k calls []) follows.calls
-      ∙ unsynced-append k old.calls later []
-      ∙ ap (unsynced k later) (unsynced_same old.clock k old.calls [] follows.sound.by_now (omega arith))
-      ∙ ap (λ (j : ℕ). unsynced j later (unsynced old.clock old.calls [])) now in
-      subst (λ cs. IsImage cs places_now image) contents (subst (λ ps. IsImage (contents_at new k) ps image) places left.left)
+  unsynced_now : unsynced new.clock new.calls [] ≡ places_now
+  unsynced_now =
+      ap (λ (calls : List Call). unsynced new.clock calls []) follows.calls
+      ∙ unsynced-append new.clock old.calls later []
+      ∙ ap (unsynced new.clock later) (unsynced_same old.clock new.clock old.calls [] follows.sound.by_now (omega (arith, follows.clock, follows.bound)))
 
-left_before : (disk : MemDiskState) (image : List Block) → IsImage disk.blocks (unsynced disk.clock disk.calls []) image → IsLeft disk disk.clock image
-left_before disk image is = record { by_now = omega arith; left = subst (λ cs. IsImage cs (unsynced disk.clock disk.calls []) image) (sym (contents_at_now disk)) is }
+  left_past : (k : ℕ) (image : List Block) → old.clock < k → IsLeft new k image → DiffersAt (Contains places_now) new.blocks image
+  left_past k image past left =
+      let now : k ≡ new.clock = omega (arith, left.by_now, follows.clock) in
+      let left_now : IsLeft new new.clock image = subst (λ (j : ℕ). IsLeft new j image) now left in
+      subst (λ cs. DiffersAt (Contains places_now) cs image) (contents_at_now new) (subst (λ ps. DiffersAt (Contains ps) (contents_at new new.clock) image) unsynced_now left_now.left)
+
+  -- where only these places were written, and only these are unsynced besides those that were so before
+  pub writes : (places : ℕ → Type 0) → DiffersAt places old.blocks new.blocks → ((at : ℕ) → Contains places_now at → OrUnsynced places (known_of old) at) → WritesAt places (known_of old) (known_of new)
+  writes places differs more = record {
+    contents = λ _. differs;
+    unsynced = λ _ at is. more at (subst (λ ps. Contains ps at) unsynced_now is);
+    left = λ _ k image past before left.
+        differs_on (OrUnsynced places (known_of old)) old.blocks new.blocks image
+        (differs_wider places (OrUnsynced places (known_of old)) old.blocks new.blocks (λ at place. inl place) differs)
+        (differs_wider (Contains places_now) (OrUnsynced places (known_of old)) new.blocks image more (left_past k image past left));
+  }
 
 -- ---- a call that was not kept
 
-pub torn_by_none : (old new : MemDiskState) (at : ℕ) (d : Block) → Follows old new [] → new.blocks ≡ old.blocks → Adds (λ _. TornFrom at (IsLeft old old.clock)) (known_of old) (known_of new)
-torn_by_none old new at d follows blocks _ k image past left =
-    let is = left_now old new [] follows k image past left in
-    let same = subst (λ cs. IsImage cs (unsynced old.clock old.calls []) image) blocks is in
-    record { whole = image; block = slice_index_or image at d; was_left = left_before old image same; torn = sym (set-get_or image at d) }
+module _ (old new : MemDiskState) (sound : IsSound old.blocks old.calls old.clock) (bound : old.clock ≤ count_end) (clock : new.clock ≡ risen old.clock) (calls : new.calls ≡ old.calls) (blocks : new.blocks ≡ old.blocks) where
+  pub follows_none : Follows old new []
+  follows_none = record {
+    sound = sound;
+    bound = bound;
+    clock = clock;
+    calls = calls ∙ sym (append-nil old.calls);
+    size = ap length blocks;
+    back = λ k lt. blocks;
+    hidden = λ k places lt. refl;
+  }
 
-pub adds_none : (old new : MemDiskState) → Follows old new [] → new.blocks ≡ old.blocks → Adds (λ _. IsLeft old old.clock) (known_of old) (known_of new)
-adds_none old new follows blocks _ k image past left =
-    let is = left_now old new [] follows k image past left in
-    left_before old image (subst (λ cs. IsImage cs (unsynced old.clock old.calls []) image) blocks is)
+  pub writes_none : (places : ℕ → Type 0) → WritesAt places (known_of old) (known_of new)
+  writes_none places = writes old new [] follows_none places (subst (λ (bs : List Block). DiffersAt places old.blocks bs) (sym blocks) (differs_itself places old.blocks)) (λ at is. inr is)
 
-pub follows_none : (old new : MemDiskState) → IsSound old.blocks old.calls old.clock → old.clock ≤ last → new.clock ≡ risen old.clock → new.calls ≡ old.calls → new.blocks ≡ old.blocks → Follows old new []
-follows_none old new sound bound clock calls blocks = record {
-  sound = sound;
-  bound = bound;
-  clock = clock;
-  calls = calls ∙ sym (append-nil old.calls);
-  size = ap length blocks;
-  back = λ k lt. blocks;
-  hidden = λ k places lt. refl;
-}
+  pub same_by_none : (at : ℕ) → (known_of new).unsynced at ↔ (known_of old).unsynced at
+  same_by_none at =
+      let same = unsynced_now old new [] follows_none in
+      ((λ is. subst (λ ps. Contains ps at) same is), (λ is. subst (λ ps. Contains ps at) (sym same) is))
 
 -- ---- a write
 
@@ -176,7 +168,19 @@ follows_none old new sound bound clock calls blocks = record {
 abbrev pub write_call : MemDiskState → ℕ → Block → Call
 write_call old at d = Write (risen old.clock) at (slice_index_or old.blocks at d)
 
-module _ (old new : MemDiskState) (at : ℕ) (block d : Block) (sound : IsSound old.blocks old.calls old.clock) (bound : old.clock ≤ last) (clock : new.clock ≡ risen old.clock)
+contains_one : (at other : ℕ) (places : List ℕ) → Contains (at ∷ places) other ↔ (here at other ⊎ Contains places other)
+contains_one at other places = (
+  λ found. elim (cases_eq other at) [
+    | inl same ↦ inl same
+    | inr apart ↦ inr (Contains-tail at places other (λ same. apart (sym same)) found)
+  ],
+  λ either. elim either [
+    | inl same ↦ (0, omega arith, sym same)
+    | inr found ↦ Contains-append_right (at ∷ []) places other found
+  ],
+)
+
+module _ (old new : MemDiskState) (at : ℕ) (block d : Block) (sound : IsSound old.blocks old.calls old.clock) (bound : old.clock ≤ count_end) (clock : new.clock ≡ risen old.clock)
     (calls : new.calls ≡ old.calls ++ write_call old at d ∷ []) (blocks : new.blocks ≡ slice_set old.blocks at block) where
   pub follows_write : Follows old new (write_call old at d ∷ [])
   follows_write = record {
@@ -192,42 +196,31 @@ module _ (old new : MemDiskState) (at : ℕ) (block d : Block) (sound : IsSound 
     hidden = λ k places lt. unsynced_by_later k (write_call old at d) places (omega (arith, lt, clock));
   }
 
-  pub torn_by_write : at < length old.blocks → Adds (λ _. TornFrom at (IsLeft old old.clock)) (known_of old) (known_of new)
-  torn_by_write inside _ k image past left =
-      let before = slice_index_or old.blocks at d in
+  one_more : (places : List ℕ) → unsynced_by new.clock (write_call old at d) places ≡ at ∷ places
+  one_more places = cond-true _ _ _ (le-leb (risen old.clock) new.clock (omega (arith, clock)))
+
+  pub writes_here : WritesAt (here at) (known_of old) (known_of new)
+  writes_here =
       let places = unsynced old.clock old.calls [] in
-      let torn = left_now old new (write_call old at d ∷ []) follows_write k image past left in
-      let now : unsynced_by new.clock (write_call old at d) places ≡ at ∷ places = cond-true _ _ _ (le-leb (risen old.clock) new.clock (omega (arith, clock))) in
-      let is : IsImage new.blocks (at ∷ places) image = subst (λ ps. IsImage new.blocks ps image) now torn in
-      let size : length image ≡ length old.blocks = is.whole ∙ ap length blocks ∙ length-set old.blocks at block in
-      let others : (i : ℕ) → ¬ Contains places i → slice_get (slice_set image at before) i ≡ slice_get old.blocks i = λ i none.
-      elim (cases_eq i at) [
-        | inl here ↦
-            subst (λ (j : ℕ). slice_get (slice_set image at before) j ≡ slice_get old.blocks j) (sym here)
-            (slice_get-set_same image at before (omega (arith, size)) ∙ sym (slice_get-get_or old.blocks at d inside))
-        | inr there ↦
-            slice_get-set_other image at i before there
-            ∙ is.others i (λ found. none (Contains-tail at places i (λ same. there (sym same)) found))
-            ∙ ap (λ (bs : List Block). slice_get bs i) blocks
-            ∙ slice_get-set_other old.blocks at i block there
-      ] in
-      record {
-        whole = slice_set image at before;
-        block = slice_index_or image at d;
-        was_left = left_before old (slice_set image at before) (record { whole = length-set image at before ∙ size; others = others });
-        torn = sym (set_back image at before d);
-      }
+      writes old new (write_call old at d ∷ []) follows_write (here at)
+      (subst (λ (bs : List Block). DiffersAt (here at) old.blocks bs) (sym blocks) (differs_set old.blocks at block))
+      (λ other is. (contains_one at other places).0 (subst (λ ps. Contains ps other) (one_more places) is))
+
+  pub unsynced_by_write : (other : ℕ) → (known_of new).unsynced other ↔ OrUnsynced (here at) (known_of old) other
+  unsynced_by_write other =
+      let places = unsynced old.clock old.calls [] in
+      let same : unsynced new.clock new.calls [] ≡ at ∷ places = unsynced_now old new (write_call old at d ∷ []) follows_write ∙ one_more places in (
+        (λ is. (contains_one at other places).0 (subst (λ ps. Contains ps other) same is)),
+        (λ is. subst (λ ps. Contains ps other) (sym same) ((contains_one at other places).1 is)),
+      )
 
 -- ---- a sync
-
-pub none_in : (i : ℕ) → ¬ Contains {X = ℕ} [] i
-none_in i found = absurd (omega (arith, found.1))
 
 among : (done : Bool) (places : List ℕ) (i : ℕ) → Contains (cond done [] places) i → Contains places i
 among true places i found = absurd (none_in i found)
 among false places i found = found
 
-module _ (old new : MemDiskState) (done : Bool) (sound : IsSound old.blocks old.calls old.clock) (bound : old.clock ≤ last) (clock : new.clock ≡ risen old.clock)
+module _ (old new : MemDiskState) (done : Bool) (sound : IsSound old.blocks old.calls old.clock) (bound : old.clock ≤ count_end) (clock : new.clock ≡ risen old.clock)
     (calls : new.calls ≡ old.calls ++ Sync (risen old.clock) done ∷ []) (blocks : new.blocks ≡ old.blocks) where
   pub follows_sync : Follows old new (Sync (risen old.clock) done ∷ [])
   follows_sync = record {
@@ -243,18 +236,22 @@ module _ (old new : MemDiskState) (done : Bool) (sound : IsSound old.blocks old.
   synced : (places : List ℕ) → unsynced_by new.clock (Sync (risen old.clock) done) places ≡ cond done [] places
   synced places = ap (λ (b : Bool). cond (b && done) [] places) (le-leb (risen old.clock) new.clock (omega (arith, clock)))
 
-  left_synced : (k : ℕ) (image : List Block) → old.clock < k → IsLeft new k image → IsImage old.blocks (cond done [] (unsynced old.clock old.calls [])) image
-  left_synced k image past left =
-      let is = left_now old new (Sync (risen old.clock) done ∷ []) follows_sync k image past left in
-      subst (λ cs. IsImage cs (cond done [] (unsynced old.clock old.calls [])) image) blocks (subst (λ ps. IsImage new.blocks ps image) (synced (unsynced old.clock old.calls [])) is)
+  pub writes_nowhere : WritesAt nowhere (known_of old) (known_of new)
+  writes_nowhere =
+      let places = unsynced old.clock old.calls [] in
+      writes old new (Sync (risen old.clock) done ∷ []) follows_sync nowhere
+      (subst (λ (bs : List Block). DiffersAt nowhere old.blocks bs) (sym blocks) (differs_itself nowhere old.blocks))
+      (λ at is. inr (among done places at (subst (λ ps. Contains ps at) (synced places) is)))
 
-  pub adds_none_by_sync : Adds (λ _. IsLeft old old.clock) (known_of old) (known_of new)
-  adds_none_by_sync _ k image past left =
-      let is = left_synced k image past left in
-      left_before old image (record { whole = is.whole; others = λ i none. is.others i (λ found. none (among done (unsynced old.clock old.calls []) i found)) })
+  unsynced_after : unsynced new.clock new.calls [] ≡ cond done [] (unsynced old.clock old.calls [])
+  unsynced_after = unsynced_now old new (Sync (risen old.clock) done ∷ []) follows_sync ∙ synced (unsynced old.clock old.calls [])
 
-  pub settled_by_sync : done ≡ true → old.clock < new.clock → IsSettled (known_of new)
-  settled_by_sync good rises image left =
-      let is = left_synced new.clock image rises left in
-      let clean : IsImage old.blocks [] image = subst (λ ps. IsImage old.blocks ps image) (cond-true done [] (unsynced old.clock old.calls []) good) is in
-      same_by_places image old.blocks clean.whole (λ i. clean.others i (none_in i)) ∙ sym blocks
+  pub settled_by_sync : done ≡ true → IsSettled (known_of new)
+  settled_by_sync good at is =
+      let none : unsynced new.clock new.calls [] ≡ [] = unsynced_after ∙ cond-true done [] (unsynced old.clock old.calls []) good in
+      none_in at (subst (λ ps. Contains ps at) none is)
+
+  pub same_by_sync : done ≡ false → (at : ℕ) → (known_of new).unsynced at ↔ (known_of old).unsynced at
+  same_by_sync bad at =
+      let same : unsynced new.clock new.calls [] ≡ unsynced old.clock old.calls [] = unsynced_after ∙ cond-false done [] (unsynced old.clock old.calls []) bad in
+      ((λ is. subst (λ ps. Contains ps at) same is), (λ is. subst (λ ps. Contains ps at) (sym same) is))

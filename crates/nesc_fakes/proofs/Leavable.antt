@@ -1,22 +1,38 @@
 -- Whether a stop can leave an image, decided place by place.
-use Rattle.std.proofs.Common.{◌≡◌, ◌≢◌, ℕ, ◌+◌, ◌<◌, ◌≤◌, ◌⊎◌, inl, inr, Bool, true, false, not, ◌&&◌, ◌||◌, ◌==◌, nat_le, cond, List, [], ◌∷◌, ◌++◌, length, Some, Contains, take, drop, slice_get, get_or, refl, sym, ◌∙◌, ap, subst, arith}
+use Rattle.std.proofs.Common.{◌≡◌, ◌≢◌, ℕ, ◌+◌, ◌<◌, ◌≤◌, ◌⊎◌, inl, inr, Bool, true, false, not, ◌&&◌, ◌||◌, ◌==◌, nat_le, nat_lt, cond, List, [], ◌∷◌, ◌++◌, length, Some, Contains, take, drop, slice_get, slice_set, get_or, refl, sym, ◌∙◌, ap, subst, arith}
 use Rattle.std.specs.Bool.{Decides}
-use Rattle.std.proofs.lemmas.Bool.{or_cases, or_left, or_right, and_parts, and_from, eqb-true, eq-eqb, ne_eqb, cond-false, cases_eq, cases_lt, not-false}
+use Rattle.std.proofs.lemmas.Bool.{cond_both, or_cases, or_left, or_right, and_parts, and_from, eqb-true, eq-eqb, ne_eqb, cond-false, cases_eq, cases_lt, not-false}
 use Rattle.std.proofs.lemmas.Bool.Decides.{Decides-eqb}
 use Rattle.std.proofs.lemmas.Slice.Eq.{slice_eq-Decides}
 use Rattle.std.proofs.Math.Dec.{eqb}
 use Rattle.std.specs.Cmp.Lexicographic.{pointwise}
 use Rattle.std.proofs.lemmas.Map.Made.{Contains-tail}
-use Rattle.std.proofs.lemmas.List.{drop_more}
+use Rattle.std.proofs.lemmas.List.{drop_more, length-set}
 use Rattle.std.proofs.lemmas.Grind.{take_at_read}
 use Rattle.std.proofs.lemmas.List.Elements.{Contains-append_right}
 use Rattle.std.proofs.lemmas.Option.{slice_get_past, slice_get-get_or, same_Some}
 use Rattle.nesc_base.specs.declared.block.Block.{Block}
+use Rattle.nesc_base.specs.Disk.{DiffersAt}
 use Rattle.nesc_fakes.specs.declared.mem_disk.Call.{Call}
 use Rattle.nesc_fakes.specs.declared.mem_disk.Call.TheVariants.{Write, Sync}
-use Rattle.nesc_fakes.specs.MemDisk.{MemDiskState, without, taken_back, contents_at, is_unsynced_by, unsynced_by, unsynced, IsImage}
-use Rattle.nesc_fakes.specs.MemDiskLaws.{length-taken_back}
+use Rattle.nesc_fakes.specs.MemDisk.{MemDiskState, without, taken_back, contents_at, is_unsynced_by, unsynced_by, unsynced, IsLeft}
 use Rattle.nesc_fakes.proofs.Images.{none_in, unsynced-append}
+
+-- ---- as many blocks as there are
+
+length-without : (k : ℕ) (call : Call) (blocks : List Block) → length (without k call blocks) ≡ length blocks
+length-without k (Write clock at before) blocks = cond_both (nat_lt k clock) (slice_set blocks at before) blocks (λ bs. length bs ≡ length blocks) (λ _. length-set blocks at before) (λ _. refl)
+length-without k (Sync clock done) blocks = refl
+
+length-taken_back : (k : ℕ) (calls : List Call) (blocks : List Block) → length (taken_back k calls blocks) ≡ length blocks
+length-taken_back k [] blocks = refl
+length-taken_back k (call ∷ calls) blocks = length-without k call (taken_back k calls blocks) ∙ length-taken_back k calls blocks
+
+pub length-contents_at : (disk : MemDiskState) (k : ℕ) → length (contents_at disk k) ≡ length disk.blocks
+length-contents_at disk k = cond_both (k == disk.clock) disk.blocks (taken_back k disk.calls disk.blocks) (λ bs. length bs ≡ length disk.blocks) (λ _. refl) (λ _. length-taken_back k disk.calls disk.blocks)
+
+pub left_whole : (disk : MemDiskState) (k : ℕ) (image : List Block) → IsLeft disk k image → length image ≡ length disk.blocks
+left_whole disk k image is_left = is_left.left.whole ∙ length-contents_at disk k
 
 -- ---- the places that are unsynced
 
@@ -90,7 +106,7 @@ module _ (contents : List Block) (places : List ℕ) (image : List Block) where
     | inr before ↦ below at (omega arith) none
   ]
 
-  pub image_whole : (n : ℕ) → length image ≤ n → length image ≡ length contents → IsImageBelow contents places image n → IsImage contents places image
+  pub image_whole : (n : ℕ) → length image ≤ n → length image ≡ length contents → IsImageBelow contents places image n → DiffersAt (Contains places) contents image
   image_whole n all whole below = record {
     whole = whole;
     others = λ at none. elim (cases_lt at n) [

@@ -1,4 +1,3 @@
-pub mod Count
 pub mod MemDisk
 pub mod MemDiskLaws
 pub mod MemSink

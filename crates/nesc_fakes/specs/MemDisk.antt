@@ -1,7 +1,7 @@
 -- What a disk in memory knows of itself: what it reads as, and the calls that it was given.
-use Rattle.std.specs.Prelude.{◌≡◌, ℕ, ◌≤◌, ◌==◌, nat_lt, nat_le, ◌&&◌, ◌||◌, not, Bool, true, if◌then◌else◌, List, [], ◌∷◌, Contains, All, length, slice_get, slice_set}
+use Rattle.std.specs.Prelude.{◌↔◌, ℕ, ◌≤◌, ◌==◌, nat_lt, nat_le, ◌&&◌, ◌||◌, not, Bool, true, if◌then◌else◌, List, [], ◌∷◌, Contains, All, length, slice_set}
 use Rattle.nesc_base.specs.declared.block.Block.{Block}
-use Rattle.nesc_base.specs.Disk.{Known}
+use Rattle.nesc_base.specs.Disk.{DiffersAt, Known}
 use Rattle.nesc_fakes.specs.declared.mem_disk.Call.{Call}
 use Rattle.nesc_fakes.specs.declared.mem_disk.Call.TheVariants.{Write, Sync}
 
@@ -54,15 +54,10 @@ abbrev pub unsynced : ℕ → List Call → List ℕ → List ℕ
 unsynced k [] places = places
 unsynced k (call ∷ calls) places = unsynced k calls (unsynced_by k call places)
 
--- what a stop can leave of these contents: the other places are as they were
-pub record IsImage (contents : List Block) (places : List ℕ) (image : List Block) : Type 0 where
-  pub whole : length image ≡ length contents
-  pub others : (at : ℕ) → ¬ Contains places at → slice_get image at ≡ slice_get contents at
-
--- a stop while the clock stood at k
+-- a stop while the clock stood at k: the places that were not unsynced are as they were
 pub record IsLeft (disk : MemDiskState) (k : ℕ) (image : List Block) : Type 0 where
   pub by_now : k ≤ disk.clock
-  pub left : IsImage (contents_at disk k) (unsynced k disk.calls []) image
+  pub left : DiffersAt (Contains (unsynced k disk.calls [])) (contents_at disk k) image
 
 abbrev pub known_of : MemDiskState → Known
 known_of disk = record {
@@ -71,5 +66,10 @@ known_of disk = record {
   contents = disk.blocks;
   clock = disk.clock;
   left = IsLeft disk;
+  unsynced = Contains (unsynced disk.clock disk.calls []);
   faults = disk.faults;
 }
+
+-- these places are unsynced, and no others
+abbrev pub AreUnsynced : MemDiskState → (ℕ → Type 0) → Type 0
+AreUnsynced disk places = (at : ℕ) → (known_of disk).unsynced at ↔ places at

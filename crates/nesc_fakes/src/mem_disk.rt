@@ -1,7 +1,7 @@
 ghost use Rattle.std.specs.Prelude.{◌≡◌, ◌+◌, ◌<◌, ◌≤◌, ◌↔◌, ◌⊎◌, true, false, [], ◌∷◌, ◌++◌, IsErr, OnOk, OnErr, Contains, Some, length, take, slice_get, slice_set, slice_index_or};
-ghost use Rattle.nesc_base.specs.Disk.{Adds, Goes, IsSettled, TornFrom, Unchanged};
+ghost use Rattle.nesc_base.specs.Count.{risen};
+ghost use Rattle.nesc_base.specs.Disk.{Goes, IsSettled, OrUnsynced, Unchanged, WritesAt, here, nowhere};
 ghost use Rattle.nesc_base.specs.Fault.{HasCause, Rose};
-ghost use Rattle.nesc_fakes.specs.Count.{risen};
 
 use nesc_base::{Block, Disk, DiskFault};
 use std::alloc::Global;
@@ -175,21 +175,20 @@ impl MemDisk {
 }
 
 impl Disk for MemDisk {
-    ghost use Rattle.nesc_base.specs.declared.block.Block.{Block};
     ghost use Rattle.nesc_fakes.specs.declared.mem_disk.Call.TheVariants.{Write, Sync};
-    ghost use Rattle.nesc_fakes.specs.MemDisk.{IsLeft, known_of};
-    ghost use Rattle.nesc_fakes.specs.MemDiskLaws.{reads_as_left, left_whole};
+    ghost use Rattle.nesc_fakes.specs.MemDisk.{AreUnsynced, known_of};
+    ghost use Rattle.nesc_fakes.specs.MemDiskLaws.{reads_as_left, left_now};
     ghost use Rattle.std.proofs.Common.{refl};
 
     ghost known = { known_of };
 
-    ghost reads_as_left = { λ d _. reads_as_left d };
+    ghost reads_as_left = { λ d _ _. reads_as_left d };
 
     ghost reads_whole = { λ d _. refl };
 
-    ghost left_whole = { λ d k image _ left. left_whole d k image left };
+    ghost left_now = { λ d image _ _ left. left_now d image left };
 
-    ghost left_by_now = { λ d k image _ left. left.by_now };
+    ghost left_by_now = { λ d k image _ _ left. left.by_now };
 
     ghost keeps_itself = { λ d. tt };
 
@@ -234,16 +233,18 @@ impl Disk for MemDisk {
     }
 
     /// Writes the block at a place. An `Err` comes at the calls that are listed, and where there is no memory to keep
-    /// one more: the disk reads as before, and the count of faults rises by one, up to 2^64 - 1. Until a sync succeeds
-    /// a stop may leave any bytes at the place, as after an `Ok`.
+    /// one more: the disk reads as before, and the count of faults rises by one, up to 2^64 - 1. Where the call is kept
+    /// the place is unsynced from then on, as after an `Ok`, until a sync succeeds.
     fn write(&mut self, at: u32, from: &Block) -> Result<(), DiskFault>
         requires { at < length self.old.blocks }
         ensures written { OnOk result (self.new.blocks ≡ slice_set self.old.blocks at from.now) }
-        ensures failed { OnErr result ((b : Block) × (self.new.blocks ≡ slice_set self.old.blocks at b)) }
-        ensures torn { Adds (λ _. TornFrom at (IsLeft self.old self.old.clock)) (known_of self.old) (known_of self.new) }
+        ensures writes { WritesAt (here at) (known_of self.old) (known_of self.new) }
         ensures rises { Rose self.old.clock self.new.clock }
         ensures goes { Goes (known_of self.old) (known_of self.new) }
         ensures cause { HasCause self.old.faults self.new.faults (IsErr result) }
+
+        // The place is unsynced now, besides those that were, unless there was no memory to keep the call.
+        ensures unsynced { AreUnsynced self.new (OrUnsynced (here at) (known_of self.old)) ⊎ (IsErr result × ((self.old.room ≡ 0) × AreUnsynced self.new (known_of self.old).unsynced)) }
 
         // It fails at the calls that are listed, and else only where the list of calls has no memory for one more.
         ensures listed { Contains self.old.write_fails (risen self.old.clock) → IsErr result }
@@ -285,14 +286,17 @@ impl Disk for MemDisk {
     }
 
     /// Makes sure of what was written. An `Err` comes at the calls that are listed, and where there is no memory to
-    /// keep one more: a stop leaves what it could before, and the count of faults rises by one, up to 2^64 - 1.
+    /// keep one more: what was unsynced is so still, and the count of faults rises by one, up to 2^64 - 1.
     fn sync(&mut self) -> Result<(), DiskFault>
         ensures contents { self.new.blocks ≡ self.old.blocks }
-        ensures settled { self.old.clock < self.new.clock → OnOk result (IsSettled (known_of self.new)) }
-        ensures no_other { Adds (λ _. IsLeft self.old self.old.clock) (known_of self.old) (known_of self.new) }
+        ensures settled { OnOk result (IsSettled (known_of self.new)) }
+        ensures writes { WritesAt nowhere (known_of self.old) (known_of self.new) }
         ensures rises { Rose self.old.clock self.new.clock }
         ensures goes { Goes (known_of self.old) (known_of self.new) }
         ensures cause { HasCause self.old.faults self.new.faults (IsErr result) }
+
+        // After an `Err` what was unsynced is so still, and nothing else.
+        ensures unsynced { OnErr result (AreUnsynced self.new (known_of self.old).unsynced) }
 
         // It fails at the calls that are listed, and else only where the list of calls has no memory for one more.
         ensures listed { Contains self.old.write_fails (risen self.old.clock) → IsErr result }

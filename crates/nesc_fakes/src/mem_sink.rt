@@ -1,7 +1,7 @@
 ghost use Rattle.std.specs.Prelude.{◌≡◌, ◌+◌, ◌<◌, ◌≤◌, ◌⊎◌, [], ◌++◌, IfOk, IsErr, OnOk, OnErr, Contains, Some, length, take};
+ghost use Rattle.nesc_base.specs.Count.{risen};
 ghost use Rattle.nesc_base.specs.Fault.{HasCause};
-ghost use Rattle.nesc_base.specs.Sink.{Appends, IsRefused};
-ghost use Rattle.nesc_fakes.specs.Count.{risen};
+ghost use Rattle.nesc_base.specs.Sink.{Appends, TakesNone};
 
 use nesc_base::{Sink, WriteFault};
 use std::alloc::Global;
@@ -64,7 +64,7 @@ impl Sink for MemSink {
         ensures within { IfOk result (λ n. n ≤ length from.now) }
         ensures first { IfOk result (λ n. Appends (Some self.old.taken) (Some self.new.taken) (take n from.now)) }
         ensures none { OnErr result (Some self.new.taken ≡ Some self.old.taken) }
-        ensures cause { HasCause self.old.faults self.new.faults (IsRefused from.now result) }
+        ensures cause { HasCause self.old.faults self.new.faults (TakesNone from.now result) }
 
         // It fails at the calls that are listed, and else only where the piece has no room in the memory that
         // the sink has. So an empty piece is never refused for want of memory.

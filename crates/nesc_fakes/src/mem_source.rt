@@ -1,7 +1,7 @@
 ghost use Rattle.std.specs.Prelude.{◌≡◌, ◌<◌, ◌≤◌, ◌↔◌, ◌++◌, IfOk, IsErr, OnErr, Contains, Some, length, min, take, drop};
+ghost use Rattle.nesc_base.specs.Count.{risen};
 ghost use Rattle.nesc_base.specs.Fault.{HasCause};
 ghost use Rattle.nesc_base.specs.Source.{GivesFirst};
-ghost use Rattle.nesc_fakes.specs.Count.{risen};
 
 use crate::rest::Rest;
 use nesc_base::{ReadFault, Source};

@@ -1,7 +1,7 @@
 ghost use Rattle.std.specs.Prelude.{◌≡◌, ◌+◌, ◌<◌, ◌≤◌, [], ◌++◌, IfOk, IsErr, OnErr, Some, length, min, take};
+ghost use Rattle.nesc_base.specs.Count.{risen};
 ghost use Rattle.nesc_base.specs.Fault.{HasCause};
-ghost use Rattle.nesc_base.specs.Sink.{Appends, IsRefused};
-ghost use Rattle.nesc_fakes.specs.Count.{risen};
+ghost use Rattle.nesc_base.specs.Sink.{Appends, TakesNone};
 
 use nesc_base::{Sink, WriteFault};
 use std::alloc::Global;
@@ -63,7 +63,7 @@ impl Sink for SlowSink {
         ensures within { IfOk result (λ n. n ≤ length from.now) }
         ensures first { IfOk result (λ n. Appends (Some self.old.taken) (Some self.new.taken) (take n from.now)) }
         ensures none { OnErr result (Some self.new.taken ≡ Some self.old.taken) }
-        ensures cause { HasCause self.old.faults self.new.faults (IsRefused from.now result) }
+        ensures cause { HasCause self.old.faults self.new.faults (TakesNone from.now result) }
 
         // It takes all up to a piece, and fails only where that has no room in the memory that the sink has.
         ensures only { IsErr result → self.old.room < min (length from.now) self.old.piece }

@@ -1,5 +1,6 @@
 -- What a file as a disk is at a moment.
-use Rattle.std.specs.Prelude.{ℕ, ◌/◌, Bool, false, List, [], Option, min}
+use Rattle.std.specs.Prelude.{ℕ, ◌/◌, ◌==◌, if◌then◌else◌, Bool, false, List, [], Option, codes, length, min, unwrap_or}
+use Rattle.std.specs.Path.{path_parent}
 use Rattle.nesc_base.specs.Disk.{Known}
 
 pub record FileDiskState (File : Type 0) : Type 0 where
@@ -13,6 +14,8 @@ pub record FileDiskState (File : Type 0) : Type 0 where
   pub file : Option File
   -- the file is open for writing too
   pub is_writable : Bool
+  -- a write made the file, and its folder was not synced since
+  pub folder_waits : Bool
   -- how many writes have begun and syncs have ended
   pub clock : ℕ
   -- how many calls failed
@@ -26,9 +29,14 @@ known_of disk = record {
   contents = [];
   clock = disk.clock;
   left = λ _ _. Unit {0};
+  unsynced = λ _. Unit {0};
   faults = disk.faults;
 }
 
 -- how many blocks there are in so many bytes
 abbrev pub blocks_in : ℕ → ℕ
 blocks_in len = min (len / 1024) 4294967295
+
+-- the folder in which the file of a path stands: its parent, or `.` where that is empty
+abbrev pub folder_of : List ℕ → List ℕ
+folder_of path = let parent = unwrap_or (path_parent path) [] in if length parent == 0 then codes "." else parent

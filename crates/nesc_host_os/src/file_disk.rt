@@ -1,17 +1,18 @@
-ghost use Rattle.std.specs.Prelude.{◌≡◌, ◌≢◌, ◌+◌, ◌*◌, ◌<◌, true, false, None, Some, IsTrue, IsSome, IsOk, IsErr, IfOk, IfErr, OnOk, OnErr, min, slice_get, slice_set};
+ghost use Rattle.std.specs.Prelude.{◌≡◌, ◌≢◌, ◌⊎◌, ◌+◌, ◌*◌, ◌<◌, true, false, None, Some, IsTrue, IsSome, IsOk, IsErr, IfOk, IfErr, OnOk, OnErr, min, slice_get, slice_set};
 ghost use Rattle.std.proofs.Common.{rules};
 ghost use Rattle.std.specs.Fs.{metadata_len, file_type, IsFile};
 ghost use Rattle.std.specs.IoError.{error_kind};
 ghost use Rattle.nesc_base.specs.Block.{zero_block};
-ghost use Rattle.nesc_base.specs.declared.block.Block.{Block};
-ghost use Rattle.nesc_base.specs.Disk.{Adds, Goes, IsSettled, TornFrom, Unchanged};
+ghost use Rattle.nesc_base.specs.Disk.{Goes, IsSettled, Unchanged, WritesAt, here, nowhere};
 ghost use Rattle.nesc_base.specs.Fault.{HasCause, Rose};
-ghost use Rattle.nesc_host_os.specs.FileDisk.{blocks_in, known_of};
+ghost use Rattle.nesc_host_os.specs.FileDisk.{blocks_in, folder_of, known_of};
 
 use nesc_base::{BLOCK_BYTES, Block, Disk, DiskFault};
 use std::fs::{self, Metadata, OpenFile, OpenOptions};
-use std::io::{self, ErrorKind, Read, Seek, SeekFrom, Write};
+use std::io::{self, ErrorKind};
 use std::marker::Model;
+use std::os::unix::fs::FileExt;
+use std::path::Path;
 use std::rt::Files;
 
 const BLANK_BLOCKS: u32 = 4_194_304;
@@ -26,6 +27,7 @@ pub struct FileDisk<'a, R: Files> {
     is_blank: bool,
     file: Option<R::File>,
     is_writable: bool,
+    folder_waits: bool,
     clock: u64,
     faults: u64,
 }
@@ -41,6 +43,7 @@ impl<'a, R: Files> Model for FileDisk<'a, R> {
       is_blank = s.is_blank;
       file = s.file;
       is_writable = s.is_writable;
+      folder_waits = s.folder_waits;
       clock = s.clock;
       faults = s.faults;
     } };
@@ -77,30 +80,40 @@ fn start_of(at: u32) -> u64
     u64::from(at) * 1024
 }
 
-/// Reads the block at a place. Where the file is blank, what lies past its end reads as zeros.
-fn read_block<F: Read + Seek + OpenFile>(
-    file: &mut F,
-    at: u32,
-    into: &mut Block,
-    is_blank: bool,
-) -> io::Result<()> {
-    let start = start_of(at);
-    let mut count = BLOCK_BYTES;
-    if is_blank {
-        *into = Block::zero();
-        count = file.metadata()?.len().saturating_sub(start).min(1024) as usize;
+/// The folder in which the file of this path stands: its parent, or `.` where the path has one name alone.
+fn folder_of(path: &str) -> &str
+    ensures { result.now ≡ folder_of path.now }
+{
+    match Path::new(path).parent() {
+        Some(folder) if !folder.as_str().is_empty() => folder.as_str(),
+        _ => ".",
     }
-    file.seek(SeekFrom::Start(start))?;
-    file.read_exact(&mut into.0[..count])
 }
 
-/// Writes the block at a place, all of it.
-fn write_block<F: Write + Seek>(file: &mut F, at: u32, from: &Block) -> io::Result<()> {
-    file.seek(SeekFrom::Start(start_of(at)))?;
-    file.write_all(&from.0)
+/// Reads the block at a place of a blank file. What lies past its end reads as zeros.
+fn read_padded<F: FileExt>(file: &F, at: u32, into: &mut Block) -> io::Result<()> {
+    let mut done = 0;
+    for _ in 0..u64::MAX {
+        if done >= BLOCK_BYTES {
+            return Ok(());
+        }
+        match file.read_at(&mut into.0[done..], start_of(at) + done as u64) {
+            Ok(0) => {
+                into.0[done..].fill(0);
+                return Ok(());
+            }
+            Ok(count) => done += count,
+            Err(e) if e.kind() == ErrorKind::Interrupted => {}
+            Err(e) => return Err(e),
+        }
+    }
+    Err(ErrorKind::Interrupted.into())
 }
 
-impl<'a, R: Files> FileDisk<'a, R> {
+impl<'a, R: Files> FileDisk<'a, R>
+where
+    R::File: FileExt,
+{
     /// The file of this path as a disk. It is looked at here, once, and opened by the first call that needs it.
     ///
     /// A file has as many blocks of 1024 bytes as its length has whole ones, up to 4,294,967,295. Where there is no
@@ -114,6 +127,7 @@ impl<'a, R: Files> FileDisk<'a, R> {
           is_blank = result.is_blank;
           file = None;
           is_writable = false;
+          folder_waits = false;
           clock = 0;
           faults = 0;
         } }
@@ -127,6 +141,7 @@ impl<'a, R: Files> FileDisk<'a, R> {
             is_blank,
             file: None,
             is_writable: false,
+            folder_waits: false,
             clock: 0,
             faults: 0,
         }
@@ -139,7 +154,7 @@ impl<'a, R: Files> FileDisk<'a, R> {
         ensures stays { IsSome self.old.file → IsSome self.new.file }
         ensures file { self.new ≡ record self.old { file = self.new.file } }
     {
-        let mut file = match self.file.take() {
+        let file = match self.file.take() {
             Some(file) => file,
             None if self.is_blank => {
                 *into = Block::zero();
@@ -147,39 +162,58 @@ impl<'a, R: Files> FileDisk<'a, R> {
             }
             None => fs::open(self.rt, self.path)?,
         };
-        let done = read_block(&mut file, at, into, self.is_blank);
+        let done = if self.is_blank {
+            read_padded(&file, at, into)
+        } else {
+            file.read_exact_at(&mut into.0, start_of(at))
+        };
         self.file = Some(file);
         done
     }
 
     /// Writes a block. A file that is not open for writing is opened first, and stays so. That of a blank disk is
-    /// made if it is not there.
+    /// made if it is not there, and its folder waits for the next sync then.
     fn write_file(&mut self, at: u32, from: &Block) -> io::Result<()>
         ensures opened { OnOk result (IsSome self.new.file × IsTrue self.new.is_writable) }
         ensures stays { IsTrue self.old.is_writable → IsSome self.old.file →
-            IsSome self.new.file × IsTrue self.new.is_writable }
-        ensures file { self.new ≡ record self.old { file = self.new.file; is_writable = self.new.is_writable } }
+            IsSome self.new.file × IsTrue self.new.is_writable × (self.new.folder_waits ≡ self.old.folder_waits) }
+        ensures made { IsTrue self.old.is_blank → self.old.file ≡ None → IsSome self.new.file → IsTrue self.new.folder_waits }
+        ensures begins { IsTrue self.new.folder_waits → IsTrue self.old.is_blank ⊎ IsTrue self.old.folder_waits }
+        ensures still_waits { IsTrue self.old.folder_waits → IsTrue self.new.folder_waits }
+        ensures file { self.new ≡ record self.old {
+          file = self.new.file;
+          is_writable = self.new.is_writable;
+          folder_waits = self.new.folder_waits;
+        } }
     {
-        let mut file = match self.file.take() {
+        let file = match self.file.take() {
             Some(file) if self.is_writable => file,
-            _ => OpenOptions::new()
-                .read(true)
-                .write(true)
-                .create(self.is_blank)
-                .open(self.rt, self.path)?,
+            _ => {
+                let file = OpenOptions::new()
+                    .read(true)
+                    .write(true)
+                    .create(self.is_blank)
+                    .open(self.rt, self.path)?;
+                self.folder_waits |= self.is_blank;
+                file
+            }
         };
-        let done = write_block(&mut file, at, from);
+        let done = file.write_all_at(&from.0, start_of(at));
         self.file = Some(file);
         self.is_writable = true;
         done
     }
 
-    /// Makes sure of the file, which is opened first if it is not open. A blank disk that was not written has none.
+    /// Makes sure of the file, which is opened first if it is not open, and then of its folder, if that waits. A
+    /// blank disk that was not written has no file.
     fn sync_file(&mut self) -> io::Result<()>
         ensures blank { IsTrue self.old.is_blank → self.old.file ≡ None → IsOk result }
         ensures opened { OnOk result (self.old.is_blank ≡ false → IsSome self.new.file) }
         ensures stays { IsSome self.old.file → IsSome self.new.file }
-        ensures file { self.new ≡ record self.old { file = self.new.file } }
+        ensures folder { OnOk result (IsSome self.new.file → self.new.folder_waits ≡ false) }
+        ensures still_waits { OnErr result (self.new.folder_waits ≡ self.old.folder_waits) }
+        ensures no_file { self.new.file ≡ None → self.new.folder_waits ≡ self.old.folder_waits }
+        ensures file { self.new ≡ record self.old { file = self.new.file; folder_waits = self.new.folder_waits } }
     {
         let file = match self.file.take() {
             Some(file) => file,
@@ -188,7 +222,20 @@ impl<'a, R: Files> FileDisk<'a, R> {
         };
         let done = file.sync_all();
         self.file = Some(file);
-        done
+        done?;
+        self.sync_folder()
+    }
+
+    /// Makes sure of the folder that the file stands in, if that waits.
+    fn sync_folder(&mut self) -> io::Result<()>
+        ensures ok { OnOk result (self.new ≡ record self.old { folder_waits = false }) }
+        ensures err { OnErr result (self.new ≡ self.old × IsTrue self.old.folder_waits) }
+    {
+        if self.folder_waits {
+            fs::open(self.rt, folder_of(self.path))?.sync_all()?;
+            self.folder_waits = false;
+        }
+        Ok(())
     }
 
     /// Counts an `Err`, up to 2^64 - 1.
@@ -207,14 +254,17 @@ impl<'a, R: Files> FileDisk<'a, R> {
     }
 }
 
-impl<R: Files> Disk for FileDisk<'_, R> {
+impl<R: Files> Disk for FileDisk<'_, R>
+where
+    R::File: FileExt,
+{
     ghost known = { known_of };
 
-    ghost reads_as_left = { λ _ _. tt };
+    ghost reads_as_left = { λ _ _ _. tt };
 
     ghost reads_whole = { Prim.search rules };
 
-    ghost left_whole = { Prim.search rules };
+    ghost left_now = { Prim.search rules };
 
     ghost left_by_now = { Prim.search rules };
 
@@ -274,27 +324,33 @@ impl<R: Files> Disk for FileDisk<'_, R> {
     fn write(&mut self, at: u32, from: &Block) -> Result<(), DiskFault>
         requires { at < self.old.size }
         ensures written { (known_of self.old).tells ≡ true → OnOk result ((known_of self.new).contents ≡ slice_set (known_of self.old).contents at from.now) }
-        ensures failed { (known_of self.old).tells ≡ true → OnErr result ((b : Block) × ((known_of self.new).contents ≡ slice_set (known_of self.old).contents at b)) }
-        ensures torn { Adds (λ _. TornFrom at ((known_of self.old).left (known_of self.old).clock)) (known_of self.old) (known_of self.new) }
+        ensures writes { WritesAt (here at) (known_of self.old) (known_of self.new) }
         ensures rises { Rose self.old.clock self.new.clock }
         ensures goes { Goes (known_of self.old) (known_of self.new) }
         ensures keeps { Unit {0} }
         ensures cause { HasCause (known_of self.old).faults (known_of self.new).faults (IsErr result) }
 
-        // After an `Ok` the file is open for writing, and a file that was open for that stays so.
+        // After an `Ok` the file is open for writing. One that was open for that stays so, and its folder as it was.
         ensures opened { OnOk result (IsSome self.new.file × IsTrue self.new.is_writable) }
         ensures stays { IsTrue self.old.is_writable → IsSome self.old.file →
-            IsSome self.new.file × IsTrue self.new.is_writable }
+            IsSome self.new.file × IsTrue self.new.is_writable × (self.new.folder_waits ≡ self.old.folder_waits) }
+
+        // The folder of a file that a write made waits for a sync. No other folder begins to wait.
+        ensures made { IsTrue self.old.is_blank → self.old.file ≡ None → IsSome self.new.file → IsTrue self.new.folder_waits }
+        ensures begins { IsTrue self.new.folder_waits → IsTrue self.old.is_blank ⊎ IsTrue self.old.folder_waits }
+        ensures still_waits { IsTrue self.old.folder_waits → IsTrue self.new.folder_waits }
 
         // Only an `Err` is counted, and the clock rises at each write.
         ensures ok { OnOk result (self.new ≡ record self.old {
           file = self.new.file;
           is_writable = self.new.is_writable;
+          folder_waits = self.new.folder_waits;
           clock = min (self.old.clock + 1) u64.MAX;
         }) }
         ensures err { OnErr result (self.new ≡ record self.old {
           file = self.new.file;
           is_writable = self.new.is_writable;
+          folder_waits = self.new.folder_waits;
           clock = min (self.old.clock + 1) u64.MAX;
           faults = min (self.old.faults + 1) u64.MAX;
         }) }
@@ -304,16 +360,16 @@ impl<R: Files> Disk for FileDisk<'_, R> {
         self.counted(done)
     }
 
-    /// Has the host bring all that the file holds to its disk, and raises the clock by one, up to 2^64 - 1. A blank
-    /// disk that was not written has nothing to bring there. The folder that the file was made in is left to the
-    /// host.
+    /// Has the host bring all that the file holds to its disk, and raises the clock by one, up to 2^64 - 1. Where a
+    /// write has made the file, the folder that it stands in is brought there too, once. A blank disk that was not
+    /// written has nothing to bring there.
     ///
-    /// An `Err` says that the path could not be opened, which the next call tries again, or that the host could not
-    /// do it. It raises the count of faults by one, up to 2^64 - 1.
+    /// An `Err` says that the path or its folder could not be opened, or that the host could not do it. The next sync
+    /// tries all of it again. It raises the count of faults by one, up to 2^64 - 1.
     fn sync(&mut self) -> Result<(), DiskFault>
         ensures contents { (known_of self.old).tells ≡ true → (known_of self.new).contents ≡ (known_of self.old).contents }
-        ensures settled { (known_of self.old).tells ≡ true → self.old.clock < self.new.clock → OnOk result (IsSettled (known_of self.new)) }
-        ensures no_other { Adds (λ _. (known_of self.old).left (known_of self.old).clock) (known_of self.old) (known_of self.new) }
+        ensures settled { (known_of self.old).tells ≡ true → OnOk result (IsSettled (known_of self.new)) }
+        ensures writes { WritesAt nowhere (known_of self.old) (known_of self.new) }
         ensures rises { Rose self.old.clock self.new.clock }
         ensures goes { Goes (known_of self.old) (known_of self.new) }
         ensures keeps { Unit {0} }
@@ -324,9 +380,14 @@ impl<R: Files> Disk for FileDisk<'_, R> {
         ensures opened { OnOk result (self.old.is_blank ≡ false → IsSome self.new.file) }
         ensures stays { IsSome self.old.file → IsSome self.new.file }
 
+        // After an `Ok` the folder of a file waits no more. Else it waits as before.
+        ensures folder { OnOk result (IsSome self.new.file → self.new.folder_waits ≡ false) }
+        ensures no_file { self.new.file ≡ None → self.new.folder_waits ≡ self.old.folder_waits }
+
         // Only an `Err` is counted, and the clock rises at each sync.
         ensures ok { OnOk result (self.new ≡ record self.old {
           file = self.new.file;
+          folder_waits = self.new.folder_waits;
           clock = min (self.old.clock + 1) u64.MAX;
         }) }
         ensures err { OnErr result (self.new ≡ record self.old {

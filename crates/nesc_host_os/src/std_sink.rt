@@ -1,7 +1,7 @@
 ghost use Rattle.std.specs.Prelude.{◌≡◌, ◌+◌, ◌<◌, ◌≤◌, None, IfOk, OnOk, OnErr, length, min};
 ghost use Rattle.std.specs.Io.KnownBytes.{WriteAppends};
 ghost use Rattle.nesc_base.specs.Fault.{HasCause};
-ghost use Rattle.nesc_base.specs.Sink.{IsRefused};
+ghost use Rattle.nesc_base.specs.Sink.{TakesNone};
 
 use nesc_base::{Sink, WriteFault};
 use std::io;
@@ -40,7 +40,7 @@ impl<W: io::Write> Sink for StdSink<W> {
     /// none of some bytes. It raises the count of faults by one, up to 2^64 - 1.
     fn write(&mut self, from: &[u8]) -> Result<usize, WriteFault>
         ensures within { IfOk result (λ n. n ≤ length from.now) }
-        ensures cause { HasCause self.old.faults self.new.faults (IsRefused from.now result) }
+        ensures cause { HasCause self.old.faults self.new.faults (TakesNone from.now result) }
 
         // What the writer holds, where it tells that, has grown by the bytes that were taken, and by no more.
         ensures bytes { WriteAppends (W.contents self.old.inner) (W.contents self.new.inner) result from.now }

@@ -6,9 +6,9 @@ use Rattle.nesc_base.specs.Disk.{Known}
 use Rattle.nesc_base.specs.Fault.{Rose}
 use Rattle.nesc_base.specs.Files.{Files}
 use Rattle.nesc_base.specs.Geometry.{total}
-use Rattle.nesc_base.specs.Script.{Script}
+use Rattle.nesc_requests.specs.Script.{Script}
 use Rattle.nesc_base.specs.Sink.{Appends}
-use Rattle.nesc_base.specs.declared.word.Word.{Word}
+use Rattle.nesc_requests.specs.declared.word.Word.{Word}
 use Rattle.file_model.specs.Lines.{trace_text}
 use Rattle.file_model.specs.State.{start}
 use Rattle.image_layout.specs.declared.fault.ImageFault.{ImageFault}

@@ -1,6 +1,6 @@
 -- Runs of the machine, step after step.
 use Rattle.std.proofs.Common.{◌≡◌, suc, List, [], ◌∷◌, ◌++◌, length, refl, ap, subst}
-use Rattle.nesc_base.specs.declared.word.Word.{Word}
+use Rattle.nesc_requests.specs.declared.word.Word.{Word}
 use Rattle.file_model.specs.Machine.{Step, Run}
 use Rattle.file_model.specs.State.{State}
 use Rattle.file_model.specs.declared.line.Line.{Line}

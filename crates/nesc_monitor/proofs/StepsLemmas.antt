@@ -4,7 +4,7 @@ use Rattle.nesc_base.specs.Sink.{Lent}
 use Rattle.std.specs.List.{flat_map}
 use Rattle.std.proofs.lemmas.List.Concat.{flat_map-append}
 use Rattle.nesc_base.specs.declared.sink.WriteFault.{WriteFault}
-use Rattle.nesc_base.specs.declared.word.Word.{Word}
+use Rattle.nesc_requests.specs.declared.word.Word.{Word}
 use Rattle.file_model.specs.Lines.{done_text, group_text}
 use Rattle.file_model.specs.Machine.{Run}
 use Rattle.file_model.specs.State.{State}

@@ -1,6 +1,6 @@
 -- What was judged of the texts holds of what their sources had left.
 use Rattle.std.proofs.Common.{◌≡◌, ℕ, ◌≤◌, List, length, Option, Some, None, inr, subst}
-use Rattle.nesc_base.specs.Script.{Script}
+use Rattle.nesc_requests.specs.Script.{Script}
 use Rattle.script_lang.specs.CommandsText.{IsCommandsText}
 use Rattle.nesc_monitor.specs.Endings.{IsCommandsRefused, IsScheduleRefused, IsTurnedAway}
 use Rattle.nesc_monitor.specs.Watched.{Watched}

@@ -1,12 +1,12 @@
 -- What a command of the program comes to, and what it says of it.
 use Rattle.std.specs.Prelude.{◌≡◌, ℕ, ◌<◌, ◌≤◌, ◌⊎◌, ◌++◌, true, List, [], length, take, codes, Option, Some, None}
 use Rattle.std.specs.Fmt.{decimal}
-use Rattle.nesc_base.specs.Disk.{Known, Leaves, Unchanged}
+use Rattle.nesc_base.specs.Disk.{Known, LeavesSince, Unchanged}
 use Rattle.nesc_base.specs.Fault.{Rose}
 use Rattle.nesc_base.specs.Files.{Files}
 use Rattle.nesc_base.specs.Sink.{Appends}
-use Rattle.nesc_base.specs.Script.{Script}
-use Rattle.nesc_base.specs.declared.word.Word.{Word}
+use Rattle.nesc_requests.specs.Script.{Script}
+use Rattle.nesc_requests.specs.declared.word.Word.{Word}
 use Rattle.file_model.specs.Lines.{trace_text}
 use Rattle.file_model.specs.Machine as machine
 use Rattle.file_model.specs.State.{State, start}
@@ -158,10 +158,11 @@ Comes outcome None commands schedule old new out =
 Comes outcome (Some Run) commands schedule old new out = Runs outcome commands schedule old new out × Unchanged old new
 Comes outcome (Some (Make geometry)) commands schedule old new out = IsUntouched commands × IsUntouched schedule × Makes outcome geometry old new out
 
--- while an image is made, a stop on the way leaves one that opens wherever it has its superblock; else nothing new
+-- while an image is made, a stop leaves one that starts as before, or that opens where it has its superblock; every other
+-- command leaves what a stop left before
 abbrev pub AtAnyMoment : Option Command → Known → Known → Type 0
-AtAnyMoment (Some (Make geometry)) old new = Leaves (λ _. OpensWhereMade geometry (old.left old.clock)) old new
-AtAnyMoment command old new = Leaves (λ _ _. ⊥) old new
+AtAnyMoment (Some (Make geometry)) old new = LeavesSince (λ _. OpensWhereMade geometry old) old new
+AtAnyMoment command old new = LeavesSince (λ _. old.left old.clock) old new
 
 -- what a sink had and has taken, and how often it had failed and has failed: it has the line of the ending behind what
 -- it had, where it tells that and did not fail

@@ -2,7 +2,7 @@
 use Rattle.std.specs.Prelude.{◌≡◌, ℕ, ◌<◌, ◌≤◌, true, List, ◌++◌, codes}
 use Rattle.std.specs.Fmt.{decimal}
 use Rattle.nesc_base.specs.declared.geometry.Geometry.{Geometry}
-use Rattle.nesc_base.specs.Disk.{IsSettled, Known, Unchanged, last}
+use Rattle.nesc_base.specs.Disk.{IsSettled, Known, Unchanged}
 use Rattle.nesc_base.specs.Fault.{Rose}
 use Rattle.nesc_base.specs.Geometry.{total}
 use Rattle.nesc_base.specs.Sink.{Appends}
@@ -22,7 +22,7 @@ pub record IsMade (geometry : Geometry) (old new : Known) : Type 0 where
   pub enough : total geometry ≤ old.size
   pub contents : old.tells ≡ true → new.contents ≡ made geometry old.contents
   pub opens : old.tells ≡ true → OpensAsNew geometry new.contents
-  pub settled : old.tells ≡ true → new.clock < last → IsSettled new
+  pub settled : old.tells ≡ true → IsSettled new
 
 abbrev pub Makes : Ending → Geometry → Known → Known → Watched → Type 0
 Makes Done geometry old new out = IsMade geometry old new × Appends out.before out.after (made_text geometry)

@@ -3,8 +3,8 @@ use Rattle.std.specs.Prelude.{◌≡◌, true, List}
 use Rattle.nesc_base.specs.Disk.{Known}
 use Rattle.nesc_base.specs.Fault.{Rose}
 use Rattle.nesc_base.specs.Files.{Files}
-use Rattle.nesc_base.specs.Script.{Script}
-use Rattle.nesc_base.specs.declared.word.Word.{Word}
+use Rattle.nesc_requests.specs.Script.{Script}
+use Rattle.nesc_requests.specs.declared.word.Word.{Word}
 use Rattle.file_model.specs.State.{start}
 use Rattle.script_lang.specs.Limits.{most_queued}
 use Rattle.image_layout.specs.declared.fault.OpenFault.{OpenFault}

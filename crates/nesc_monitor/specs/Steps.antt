@@ -3,7 +3,7 @@ use Rattle.std.specs.Prelude.{◌≡◌, ℕ, ◌++◌, List, Option, Result, Ok
 use Rattle.std.specs.List.{flat_map}
 use Rattle.nesc_base.specs.Sink.{Appends, Lent}
 use Rattle.nesc_base.specs.declared.sink.WriteFault.{WriteFault}
-use Rattle.nesc_base.specs.declared.word.Word.{Word}
+use Rattle.nesc_requests.specs.declared.word.Word.{Word}
 use Rattle.file_model.specs.Lines.{group_text, trace_text}
 use Rattle.file_model.specs.Machine.{Step, Run}
 use Rattle.file_model.specs.State.{State}

@@ -1,7 +1,7 @@
 -- Reading and judging the two texts.
 use Rattle.std.specs.Prelude.{◌≡◌, ℕ, List, Option, Some, None}
-use Rattle.nesc_base.specs.Script.{Script}
-use Rattle.nesc_base.specs.declared.word.Word.{Word}
+use Rattle.nesc_requests.specs.Script.{Script}
+use Rattle.nesc_requests.specs.declared.word.Word.{Word}
 use Rattle.script_lang.specs.CommandsText.{IsCommandsText}
 use Rattle.script_lang.specs.ScheduleText.{schedule_of}
 use Rattle.nesc_monitor.specs.declared.ending.Ending.{Ending}

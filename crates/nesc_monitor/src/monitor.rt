@@ -1,7 +1,7 @@
 ghost use Rattle.std.specs.Prelude.{◌≡◌, ◌<◌, ◌≤◌, ◌↔◌, ◌⊎◌, ◌++◌, [], map, codes, string_bytes, true, IsErr, None, OnOk, Some};
 ghost use Rattle.std.specs.Fmt.{decimal};
 ghost use Rattle.nesc_base.specs.declared.geometry.Geometry.{Geometry};
-ghost use Rattle.nesc_base.specs.Disk.{Goes, Leaves, Unchanged};
+ghost use Rattle.nesc_base.specs.Disk.{Goes, LeavesSince, Unchanged};
 ghost use Rattle.nesc_base.specs.Fault.{HasCause, Rose};
 ghost use Rattle.nesc_base.specs.Files.{Files};
 ghost use Rattle.nesc_base.specs.Geometry.{IsGeometry, total};
@@ -139,7 +139,7 @@ fn tell_made<K: Sink>(out: &mut K, total: u32) -> Result<(), WriteFault>
 fn make_image<D: Disk, K: Sink>(image: &mut D, geometry: Geometry, out: &mut K) -> Ending
     requires { IsGeometry geometry }
     ensures makes { Makes result geometry (D.known image.old) (D.known image.new) (watch K.taken K.faults out.old out.new) }
-    ensures any_moment { Leaves (λ _. OpensWhereMade geometry ((D.known image.old).left (D.known image.old).clock)) (D.known image.old) (D.known image.new) }
+    ensures any_moment { LeavesSince (λ _. OpensWhereMade geometry (D.known image.old)) (D.known image.old) (D.known image.new) }
     ensures goes { Goes (D.known image.old) (D.known image.new) }
     ensures keeps { D.keeps image.old image.new }
     ensures never_fall { ((D.known image.old).faults ≤ (D.known image.new).faults) × (K.faults out.old ≤ K.faults out.new) }

@@ -43,7 +43,7 @@ fn write_blocks<K: Sink>(sink: &mut K, blocks: &Blocks) -> Result<(), WriteFault
     ensures { Writes K.taken K.faults K.lent sink.old sink.new (block_words blocks.now) result }
 {
     for k in 0..blocks.len() {
-        write_word(sink, blocks.get(k))?;
+        write_word(sink, &blocks.get(k))?;
     }
     Ok(())
 }

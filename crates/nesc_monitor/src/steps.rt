@@ -3,7 +3,8 @@ ghost use Rattle.nesc_monitor.specs.Steps.{TakesSteps, TellsStep};
 ghost use Rattle.nesc_session.specs.Session.{IsReady, state_of};
 
 use crate::trace::{write_done, write_outcome};
-use nesc_base::{Sink, Word, WriteFault};
+use nesc_base::{Sink, WriteFault};
+use nesc_requests::Word;
 use nesc_session::Session;
 use script_lang::Schedule;
 

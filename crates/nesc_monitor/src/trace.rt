@@ -6,7 +6,8 @@ ghost use Rattle.text_kit.specs.Writes.{Writes};
 
 use crate::pieces::{Piece, write_pieces};
 use file_model::{Handled, How, Line, Submission};
-use nesc_base::{End, FnNo, HostAnswer, Kind, Miss, Reply, Request, Sink, WriteFault};
+use nesc_base::{FnNo, Sink, WriteFault};
+use nesc_requests::{End, HostAnswer, Kind, Miss, Reply, Request};
 use nesc_session::Outcome;
 use text_kit::write_text;
 

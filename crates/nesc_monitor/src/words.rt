@@ -42,8 +42,8 @@ fn make_of(blocks: &[u8], slack: &[u8]) -> Option<Command>
 {
     Some(Command::Make(Geometry {
         version: 1,
-        blocks: number_between(blocks, 16, 65_536)?,
-        slack: number_between(slack, 64, 1_024)?,
+        blocks: number_between(blocks, Geometry::LEAST_BLOCKS, Geometry::MOST_BLOCKS)?,
+        slack: number_between(slack, Geometry::LEAST_SLACK, Geometry::MOST_SLACK)?,
     }))
 }
 

@@ -2,7 +2,7 @@
 use Rattle.std.proofs.Common.{◌∷◌, [], zero, ◌≡◌, ℕ, suc, ◌+◌, ◌<◌, true, false, List, length, Option, None, Some, slice_get, slice_index_or, slice_set, is_none, refl, sym, ap, ◌∙◌, arith}
 use Rattle.std.proofs.lemmas.Option.{none-some, same_Some, slice_get-get_or}
 use Rattle.std.specs.Option.{option_and_then, option_map_or}
-use Rattle.nesc_base.specs.Script.{numbered, with_numbered}
+use Rattle.nesc_requests.specs.Script.{numbered, with_numbered}
 use Rattle.file_model.specs.Functions.{Function, attached_of, is_off, waiting_of}
 
 module _ {A : Type 0} (xs : List A) (f i : ℕ) (is : f ≡ i + 1) where

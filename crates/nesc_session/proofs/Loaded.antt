@@ -15,15 +15,16 @@ use Rattle.nesc_base.proofs.Maps.{get-insert_other, get-insert_same}
 use Rattle.nesc_base.proofs.Numbered.{found, get_before}
 use Rattle.file_model.specs.Files.{holds}
 use Rattle.image_layout.specs.declared.table.TableEntry.{TableEntry}
-use Rattle.image_layout.specs.Opens.{IsHeld, Repeats}
+use Rattle.image_layout.specs.Opens.{AreFiles, IsHeld, Repeats}
 use Rattle.image_layout.specs.Owners.{Owner}
-use Rattle.image_layout.specs.Refusal.{OwnsTwice}
-use Rattle.image_layout.specs.Slots.{block_at}
+use Rattle.image_layout.specs.Refusal.{DoesNotOpen}
+use Rattle.image_layout.specs.declared.fault.ImageFault.TheVariants.{TwiceOwned}
+use Rattle.slot_layout.specs.Slots.{block_at}
 use Rattle.image_layout.proofs.Bodies.{IsAt, is_at_or_not, one_at}
-use Rattle.image_layout.proofs.OpenedFiles.{are_places, places_from, some_there}
+use Rattle.image_layout.proofs.OpenedFiles.{placed, places_from, some_there}
 use Rattle.image_layout.proofs.TableLemmas.{slice_get-take}
 use Rattle.image_opening.specs.Parts.{AreParts, MayAllOwn, OpensAsItIs}
-use Rattle.image_opening.proofs.PartsLemmas.{lays_itself}
+use Rattle.slot_layout.proofs.Alike.{lays_itself}
 use Rattle.nesc_session.specs.FilesInMemory.{Writes, body_of, entries_in, file_of, files_of}
 use Rattle.nesc_session.specs.HeldBlocks.{place_cmp}
 use Rattle.nesc_session.proofs.KeptNames.{KeepsNames, entry_for, named_first, none_for}
@@ -231,49 +232,49 @@ none_repeats_more owners k before here j earlier below repeats = elim (cases_eq 
 
 -- the first that repeats an earlier one is owned twice
 pub owns_twice : (image : List Block) (geometry : Geometry) (entries : List (Option TableEntry)) (owners : List (Option Owner)) (k : ℕ) (owner : Owner)
-    → AreParts image geometry entries owners → Repeats owners k owner → ((j : ℕ) (earlier : Owner) → j < k → ¬ Repeats owners j earlier) → OwnsTwice image owner
+    → AreParts image geometry entries owners → Repeats owners k owner → ((j : ℕ) (earlier : Owner) → j < k → ¬ Repeats owners j earlier) → DoesNotOpen image (TwiceOwned owner.0 owner.1)
 owns_twice image geometry entries owners k owner parts repeats first = record {
   geometry = geometry;
   divided = parts.divided;
   laid = image;
   lays = lays_itself geometry image parts.closed;
-  entries = entries;
-  table = parts.table;
-  owners = owners;
-  owned = parts.owned;
-  k = k;
-  repeats = repeats;
-  first = first;
+  has = record { entries = entries; table = parts.table; owners = owners; owned = parts.owned; k = k; repeats = repeats; first = first };
 }
 
 -- The whole image
 
--- the image opens as the files of its table that hold what all owners say
+-- the files are those of its table, and hold what all owners say
+whole_files : (image : List Block) (geometry : Geometry) (entries : List (Option TableEntry)) (owners : List (Option Owner)) (files : Files) (k : ℕ)
+    → length owners ≤ k → KeepsNames (files_of entries empty) files → AreHeld geometry image (take k owners) files → AreFiles geometry image entries owners files
+whole_files image geometry entries owners files k all names held = record {
+  none = none_for (get files 0) (names 0 ∙ ap entry_for (get_before (file_of empty) 1 entries 0 (omega arith)));
+  named = λ e. names (e + 1) ∙ named_first entries e;
+  held = subst (λ (some : List (Option Owner)). AreHeld geometry image some files) (take_all k owners all) held;
+}
+
+-- the image opens as them
 pub opens_whole : (image : List Block) (geometry : Geometry) (entries : List (Option TableEntry)) (owners : List (Option Owner)) (files : Files) (k : ℕ)
     → AreParts image geometry entries owners → length owners ≤ k → KeepsNames (files_of entries empty) files → AreHeld geometry image (take k owners) files
     → ((j : ℕ) (earlier : Owner) → j < k → ¬ Repeats owners j earlier) → OpensAsItIs image files
-opens_whole image geometry entries owners files k parts all names held first = record {
-  geometry = geometry;
-  places = places_from geometry owners;
-  opens = record {
-    laid = image;
-    entries = entries;
-    owners = owners;
-    says = record {
-      divided = parts.divided;
-      lays = lays_itself geometry image parts.closed;
-      table = parts.table;
-      owned = parts.owned;
-      once = λ j owner repeats.
-          let within : j < length owners = slice_get_within owners j (Some owner) repeats.0 in
-          first j owner (omega (arith, within, all)) repeats;
-    };
-    are_files = record {
-      none = none_for (get files 0) (names 0 ∙ ap entry_for (get_before (file_of empty) 1 entries 0 (omega arith)));
-      named = λ e. names (e + 1) ∙ named_first entries e;
-      held = subst (λ (some : List (Option Owner)). AreHeld geometry image some files) (take_all k owners all) held;
-    };
-    are_places = are_places geometry owners;
-  };
-  closed = parts.closed;
-}
+opens_whole image geometry entries owners files k parts all names held first =
+    let are_files : AreFiles geometry image entries owners files = whole_files image geometry entries owners files k all names held in
+    let once : (j : ℕ) (owner : Owner) → ¬ Repeats owners j owner = λ j owner repeats.
+    let within : j < length owners = slice_get_within owners j (Some owner) repeats.0 in
+    first j owner (omega (arith, within, all)) repeats in
+    record {
+      geometry = geometry;
+      places = places_from geometry entries owners;
+      opens = record {
+        laid = image;
+        divided = parts.divided;
+        lays = lays_itself geometry image parts.closed;
+        has = record {
+          entries = entries;
+          owners = owners;
+          parts = record { table = parts.table; owned = parts.owned; once = once };
+          are_files = are_files;
+          are_places = placed geometry image entries owners files once are_files;
+        };
+      };
+      closed = parts.closed;
+    }

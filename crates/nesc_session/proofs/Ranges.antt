@@ -4,9 +4,9 @@ use Rattle.std.proofs.lemmas.Bool.Decides.{nat_tests}
 use Rattle.nesc_base.specs.Files.{File, Files, file_at}
 use Rattle.file_model.specs.Files.{HasName}
 use Rattle.nesc_base.specs.declared.block.Block.{Block}
-use Rattle.nesc_base.specs.declared.host.HostCommand.TheVariants.{Put, Get}
-use Rattle.nesc_base.specs.declared.host.HostAnswer.{HostAnswer}
-use Rattle.nesc_base.specs.declared.host.HostAnswer.TheVariants.{NoFile, Range}
+use Rattle.nesc_requests.specs.declared.host.HostCommand.TheVariants.{Put, Get}
+use Rattle.nesc_requests.specs.declared.host.HostAnswer.{HostAnswer}
+use Rattle.nesc_requests.specs.declared.host.HostAnswer.TheVariants.{NoFile, Range}
 use Rattle.file_model.specs.HostCommands.{FileStep, IsOutside}
 use Rattle.nesc_session.specs.FilesInMemory.{IsInside, Refuses}
 use Rattle.nesc_session.proofs.Standing.{file_at-stands}

@@ -4,14 +4,14 @@ use Rattle.std.proofs.lemmas.Bool.{false≢true}
 use Rattle.std.proofs.lemmas.Bool.Decides.{nat_tests}
 use Rattle.std.proofs.lemmas.Option.{none-some, same_Some}
 use Rattle.nesc_base.specs.declared.numbers.FnNo.{FnNo}
-use Rattle.nesc_base.specs.declared.request.End.TheVariants as end
-use Rattle.nesc_base.specs.declared.request.Kind.TheVariants.{Unmapped}
-use Rattle.nesc_base.specs.declared.request.Miss.{Miss}
-use Rattle.nesc_base.specs.declared.request.Queued.{Queued}
-use Rattle.nesc_base.specs.declared.request.Request.{Request}
-use Rattle.nesc_base.specs.declared.request.Request.TheVariants.{Read, Write}
+use Rattle.nesc_requests.specs.declared.request.End.TheVariants as end
+use Rattle.nesc_requests.specs.declared.request.Kind.TheVariants.{Unmapped}
+use Rattle.nesc_requests.specs.declared.request.Miss.{Miss}
+use Rattle.nesc_requests.specs.declared.request.Queued.{Queued}
+use Rattle.nesc_requests.specs.declared.request.Request.{Request}
+use Rattle.nesc_requests.specs.declared.request.Request.TheVariants.{Read, Write}
 use Rattle.nesc_base.specs.Block.{zero_block}
-use Rattle.nesc_base.specs.Requests.{blocks_of, first_of, is_write}
+use Rattle.nesc_requests.specs.Requests.{blocks_of, first_of, is_write}
 use Rattle.nesc_base.specs.Files.{Files, file_at}
 use Rattle.file_model.specs.Files.{Changes, holds, put, read}
 use Rattle.file_model.specs.Functions.{Attached, Function}

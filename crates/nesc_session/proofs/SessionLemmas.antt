@@ -2,8 +2,8 @@
 use Rattle.std.proofs.Common.{◌≡◌, ℕ, ◌+◌, ◌<◌, true, false, nat_lt, nat_le, List, [], ◌∷◌, length, Option, None, Some, IfSome, slice_index_or, slice_set, is_none, refl, sym, ap, subst, ◌∙◌, arith}
 use Rattle.std.proofs.lemmas.Bool.Decides.{nat_tests}
 use Rattle.std.proofs.lemmas.Option.{slice_get-get_or}
-use Rattle.nesc_base.specs.Script.{Script, requests_of, with_numbered}
-use Rattle.nesc_base.specs.declared.request.Request.{Request}
+use Rattle.nesc_requests.specs.Script.{Script, requests_of, with_numbered}
+use Rattle.nesc_requests.specs.declared.request.Request.{Request}
 use Rattle.nesc_base.specs.Files.{Files}
 use Rattle.file_model.specs.Files.{holds}
 use Rattle.file_model.specs.Functions.{Attached, Function, attached_of, in_turn, is_ready, is_runnable, next_runnable}

@@ -7,7 +7,7 @@ use Rattle.std.proofs.lemmas.List.Folds.{find-append}
 use Rattle.std.specs.List.{find, position, position_from, range_with_len}
 use Rattle.std.specs.Option.{option_map, option_or, option_and_then}
 use Rattle.circular_buffer.proofs.Places.{slice_get-drop, slice_get-take}
-use Rattle.nesc_base.specs.Script.{numbered}
+use Rattle.nesc_requests.specs.Script.{numbered}
 use Rattle.file_model.specs.Functions.{Function, is_ready, is_runnable, next_runnable}
 
 abbrev pub ready : Function → Bool

@@ -5,7 +5,7 @@ use Rattle.std.proofs.lemmas.Bool.Decides.{nat_tests}
 use Rattle.std.proofs.lemmas.List.Elements.{filter-append}
 use Rattle.std.proofs.lemmas.List.FromFn.{length-range_with_len}
 use Rattle.std.specs.List.{filter, range_with_len}
-use Rattle.nesc_base.specs.declared.request.Miss.{Miss}
+use Rattle.nesc_requests.specs.declared.request.Miss.{Miss}
 use Rattle.nesc_base.specs.Files.{File}
 use Rattle.file_model.specs.Files.{holds}
 use Rattle.file_model.specs.Handlings.{wanted}

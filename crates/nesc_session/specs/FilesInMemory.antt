@@ -1,20 +1,21 @@
 -- The files that are kept in memory, as the files that they are.
-use Rattle.std.specs.Prelude.{◌≡◌, ℕ, ◌+◌, ◌≤◌, ◌==◌, Bool, false, List, [], ◌∷◌, length, Option, None, Some, IsSome, unwrap_or, if◌then◌else◌, refl}
+use Rattle.std.specs.Prelude.{◌≡◌, ℕ, ◌+◌, ◌≤◌, ◌==◌, Bool, false, List, [], ◌∷◌, Option, None, Some, IsSome, unwrap_or, if◌then◌else◌, refl}
 use Rattle.std.specs.Coded.{Coded, code_by, coded×, coded_list, coded_ℕ}
 use Rattle.std.specs.Str.{bytes_eq}
 use Rattle.std.specs.FinMap as map
 use Rattle.std.specs.FinMap.{FinMap, entries, from_entries, get, insert}
 use Rattle.nesc_base.specs.declared.block.Block.{Block}
-use Rattle.nesc_base.specs.declared.host.HostAnswer.{HostAnswer}
-use Rattle.nesc_base.specs.declared.host.HostAnswer.TheVariants.{NoFile, Range}
-use Rattle.nesc_base.specs.Files.{Body, File, Files, most_files}
+use Rattle.nesc_requests.specs.declared.host.HostAnswer.{HostAnswer}
+use Rattle.nesc_requests.specs.declared.host.HostAnswer.TheVariants.{NoFile, Range}
+use Rattle.nesc_base.specs.Files.{Body, File, Files}
 use Rattle.nesc_base.specs.Numbered.{map_from}
-use Rattle.nesc_base.specs.Script.{numbered}
+use Rattle.nesc_requests.specs.Script.{numbered}
 use Rattle.image_layout.specs.declared.table.TableEntry.{TableEntry}
 use Rattle.file_model.specs.Files.{HasName, IsUnnamed}
 use Rattle.file_model.specs.HostCommands.{IsOutside}
 use Rattle.nesc_session.specs.declared.files.held.Place.{Place}
-use Rattle.nesc_session.specs.HeldBlocks.{place_cmp, block_code}
+use Rattle.nesc_base.specs.Codes.{coded_block}
+use Rattle.nesc_session.specs.HeldBlocks.{place_cmp}
 
 -- what callers see: the files, and how many blocks more they can come to hold
 pub record FilesInMemory : Type 0 where
@@ -24,7 +25,7 @@ pub record FilesInMemory : Type 0 where
 -- a file is stored as the triple of its fields
 abbrev pub file_code : Coded File
 file_code =
-    code_by (List ℕ × (ℕ × Body)) (coded× (coded_list coded_ℕ) (coded× coded_ℕ (map.code coded_ℕ block_code))) (λ f. (f.name, (f.length, f.body))) (λ t. record { name = t.0; length = t.1.0; body = t.1.1 }) (λ _. refl)
+    code_by (List ℕ × (ℕ × Body)) (coded× (coded_list coded_ℕ) (coded× coded_ℕ (map.code coded_ℕ coded_block))) (λ f. (f.name, (f.length, f.body))) (λ t. record { name = t.0; length = t.1.0; body = t.1.1 }) (λ _. refl)
 
 -- what callers see is stored as the pair of its fields
 abbrev pub files_code : Coded FilesInMemory
@@ -55,9 +56,8 @@ abbrev pub has_name : List ℕ → Option TableEntry → Bool
 has_name name None = false
 has_name name (Some entry) = bytes_eq entry.name name
 
--- there is an entry for each file that there may be, and each block that is held is of one of the files
+-- each block that is held is of one of the files
 pub record IsInOrder (entries : List (Option TableEntry)) (blocks : FinMap place_cmp Block) : Type 0 where
-  pub count : length entries ≡ most_files
   pub filed : (p : Place) → IsSome (get blocks p) → IsSome (entry_at entries p.file.0)
 
 -- the file of the number has the name, and all its n blocks from v on lie below its length

@@ -3,10 +3,10 @@ use Rattle.std.specs.Prelude.{◌≡◌, ℕ, ◌+◌, ◌-◌, ◌≤◌, true,
 use Rattle.std.specs.List.{AllByRecursion}
 use Rattle.circular_buffer.specs.Buffer.{Buffer}
 use Rattle.script_lang.specs.Limits.{most_queued}
-use Rattle.nesc_base.specs.Requests.{Fits, blocks_of, first_of, is_write}
+use Rattle.nesc_requests.specs.Requests.{Fits, blocks_of, first_of, is_write}
 use Rattle.nesc_base.specs.declared.numbers.FileNo.{FileNo}
-use Rattle.nesc_base.specs.declared.request.Miss.{Miss}
-use Rattle.nesc_base.specs.declared.request.Queued.{Queued}
+use Rattle.nesc_requests.specs.declared.request.Miss.{Miss}
+use Rattle.nesc_requests.specs.declared.request.Queued.{Queued}
 use Rattle.file_model.specs.Functions.{Attached}
 
 -- what the function has, if it has a file

@@ -1,6 +1,6 @@
 -- The blocks that are held, by their places.
 use Rattle.std.specs.Prelude.{◌≡◌, ℕ, ◌+◌, ◌^◌, ◌<◌, ◌≤◌, ◌==◌, ◌&&◌, Bool, List, [], ◌∷◌, length, slice_index_or, Option, Some, refl}
-use Rattle.std.specs.Coded.{Coded, code_by, coded×, coded_list, coded_ℕ}
+use Rattle.std.specs.Coded.{Coded, code_by, coded×, coded_ℕ}
 use Rattle.std.specs.FinMap as map
 use Rattle.std.specs.FinMap.{FinMap, from_entries}
 use Rattle.std.specs.Map.{lookup}
@@ -8,6 +8,7 @@ use Rattle.std.specs.declared.cmp.Ordering.{Ordering}
 use Rattle.std.specs.Ordering.{nat_cmp, then_cmp, on}
 use Rattle.nesc_base.specs.declared.block.Block.{Block}
 use Rattle.nesc_base.specs.Block.{zero_block}
+use Rattle.nesc_base.specs.Codes.{coded_block}
 use Rattle.nesc_session.specs.declared.files.held.Place.{Place}
 
 -- places in order: by their files' numbers, and in one file by where they stand in it
@@ -19,10 +20,6 @@ pub record Held : Type 0 where
   pub blocks : FinMap place_cmp Block
   pub room : ℕ
 
--- a block is stored as its bytes
-abbrev pub block_code : Coded Block
-block_code = code_by (List ℕ) (coded_list coded_ℕ) (λ block. block.0) (λ bytes. record { 0 = bytes }) (λ _. refl)
-
 -- a place is stored as its two numbers
 abbrev pub place_code : Coded Place
 place_code =
@@ -31,7 +28,7 @@ place_code =
 -- what is held is stored as the pair of its fields
 abbrev pub held_code : Coded Held
 held_code =
-    code_by (FinMap place_cmp Block × ℕ) (coded× (map.code place_code block_code) coded_ℕ) (λ h. (h.blocks, h.room)) (λ p. record { blocks = p.0; room = p.1 }) (λ _. refl)
+    code_by (FinMap place_cmp Block × ℕ) (coded× (map.code place_code coded_block) coded_ℕ) (λ h. (h.blocks, h.room)) (λ p. record { blocks = p.0; room = p.1 }) (λ _. refl)
 
 -- the block at each place, by the places' indices in the list of blocks
 abbrev pub entries_of : List (Place × ℕ) → List Block → List (Place × Block)

@@ -5,7 +5,7 @@ use Rattle.nesc_base.specs.Disk.{Known}
 use Rattle.nesc_base.specs.Files.{Files, file_at}
 use Rattle.file_model.specs.Files.{holds}
 use Rattle.image_layout.specs.Owners.{Owner}
-use Rattle.image_layout.specs.Slots.{block_at}
+use Rattle.slot_layout.specs.Slots.{block_at}
 use Rattle.nesc_session.specs.FilesInMemory.{Writes}
 
 -- how many data blocks are held

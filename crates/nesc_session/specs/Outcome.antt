@@ -1,6 +1,6 @@
 -- What one step came to, as the lines that tell it.
 use Rattle.std.specs.Prelude.{List, [], ◌∷◌, Option, Some, None}
-use Rattle.nesc_base.specs.declared.request.Reply.{Reply}
+use Rattle.nesc_requests.specs.declared.request.Reply.{Reply}
 use Rattle.file_model.specs.declared.line.Line.{Line}
 use Rattle.file_model.specs.declared.line.Line.TheVariants.{Replied}
 use Rattle.nesc_session.specs.declared.outcome.Outcome.{Outcome}

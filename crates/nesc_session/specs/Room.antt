@@ -1,12 +1,12 @@
 -- How many blocks more may come to be held.
 use Rattle.std.specs.Prelude.{◌≡◌, ℕ, ◌+◌, ◌-◌, true, List, [], ◌∷◌, length, Option, Some, None}
 use Rattle.std.specs.List.{sum_by}
-use Rattle.nesc_base.specs.Script.{Script}
-use Rattle.nesc_base.specs.declared.host.HostCommand.{HostCommand}
-use Rattle.nesc_base.specs.declared.host.HostCommand.TheVariants.{Create, Put, Get, Attach}
-use Rattle.nesc_base.specs.declared.request.Queued.{Queued}
-use Rattle.nesc_base.specs.declared.request.Request.{Request}
-use Rattle.nesc_base.specs.declared.request.Request.TheVariants.{Read, Write}
+use Rattle.nesc_requests.specs.Script.{Script}
+use Rattle.nesc_requests.specs.declared.host.HostCommand.{HostCommand}
+use Rattle.nesc_requests.specs.declared.host.HostCommand.TheVariants.{Create, Put, Get, Attach}
+use Rattle.nesc_requests.specs.declared.request.Queued.{Queued}
+use Rattle.nesc_requests.specs.declared.request.Request.{Request}
+use Rattle.nesc_requests.specs.declared.request.Request.TheVariants.{Read, Write}
 use Rattle.nesc_base.specs.Files.{File, Files, file_at}
 use Rattle.file_model.specs.Files.{holds, unheld}
 use Rattle.file_model.specs.Functions.{Attached, Function}

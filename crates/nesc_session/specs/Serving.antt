@@ -2,9 +2,9 @@
 use Rattle.std.specs.Prelude.{◌≡◌, ℕ, ◌+◌, ◌<◌, true, false, List, [], ◌∷◌, length, Option, Some, None}
 use Rattle.std.specs.Option.{option_and_then}
 use Rattle.nesc_base.specs.declared.numbers.FnNo.{FnNo}
-use Rattle.nesc_base.specs.declared.request.Miss.{Miss}
-use Rattle.nesc_base.specs.declared.request.Request.{Request}
-use Rattle.nesc_base.specs.Requests.{first_of, is_write}
+use Rattle.nesc_requests.specs.declared.request.Miss.{Miss}
+use Rattle.nesc_requests.specs.declared.request.Request.{Request}
+use Rattle.nesc_requests.specs.Requests.{first_of, is_write}
 use Rattle.nesc_base.specs.Files.{Files, file_at}
 use Rattle.file_model.specs.Files.{holds}
 use Rattle.file_model.specs.Functions.{Attached, Function, off}

@@ -5,7 +5,7 @@ ghost use Rattle.std.specs.FinMap.{empty, get};
 ghost use Rattle.nesc_base.specs.Files.{File, file_at, most_files};
 ghost use Rattle.file_model.specs.Files.{Changes, HasName, IsUnnamed, holds, put, read_from};
 ghost use Rattle.file_model.specs.Handlings.{HoldsAll, wanted};
-ghost use Rattle.nesc_base.specs.declared.request.Kind.TheVariants.{Unmapped};
+ghost use Rattle.nesc_requests.specs.declared.request.Kind.TheVariants.{Unmapped};
 ghost use Rattle.nesc_session.specs.Room.{KeepsHeld};
 ghost use Rattle.file_model.specs.HostCommands.{FileStep};
 ghost use Rattle.nesc_base.specs.Block.{zero_block};
@@ -15,7 +15,8 @@ mod held;
 
 use held::{HeldBlocks, Place};
 use image_layout::{Table, TableEntry};
-use nesc_base::{Block, Blocks, FileNo, HostAnswer, HostCommand, Name, NoMemory};
+use nesc_base::{Block, Blocks, FileNo, Name, NoMemory};
+use nesc_requests::{HostAnswer, HostCommand};
 use std::alloc::Global;
 use std::marker::Model;
 
@@ -50,7 +51,8 @@ fn has_name(entry: &Option<TableEntry>, name: &Name) -> bool
 
 // At which index the first entry of a name is.
 fn index_of(table: &Table, name: &Name) -> Option<usize>
-    ensures { result ≡ position (has_name name.now) table.now }
+    ensures index { result ≡ position (has_name name.now) table.now }
+    ensures all { length table.now ≡ most_files }
 {
     table
         .entries()
@@ -60,7 +62,8 @@ fn index_of(table: &Table, name: &Name) -> Option<usize>
 
 // At which index the first entry is that is not used.
 fn first_unused(table: &Table) -> Option<usize>
-    ensures { result ≡ position is_none table.now }
+    ensures index { result ≡ position is_none table.now }
+    ensures all { length table.now ≡ most_files }
 {
     table.entries().iter().position(|entry| entry.is_none())
 }
@@ -76,7 +79,6 @@ impl Files {
     /// The files of a table, which hold no block yet, with the memory for so many held blocks over all of them. An
     /// `Err` says that there is no memory for them. No other call takes any.
     pub fn new(alloc: Global, table: Table, room: u32) -> Result<Files, NoMemory>
-        requires { length table ≡ most_files }
         ensures files { IfOk result (λ files. files.files ≡ files_of table empty) }
         ensures room { IfOk result (λ files. files.room ≡ room) }
     {
@@ -193,7 +195,7 @@ impl Files {
         ensures room { self.old.room ≤ self.new.room + length blocks.now }
     {
         for k in 0..blocks.len() {
-            self.write(file, v + k, blocks.get(k));
+            self.write(file, v + k, &blocks.get(k));
         }
     }
 
@@ -289,9 +291,9 @@ mod tests {
             panic!(rt; "there is no answer with blocks");
         };
         assert_eq!(rt; read.len(), 3);
-        assert!(rt; *read.get(0) == Block::zero());
-        assert!(rt; *read.get(1) == Block::zero());
-        assert!(rt; *read.get(2) == Block([7; BLOCK_BYTES]));
+        assert!(rt; read.get(0) == Block::zero());
+        assert!(rt; read.get(1) == Block::zero());
+        assert!(rt; read.get(2) == Block([7; BLOCK_BYTES]));
 
         let file = files.find(&name).ok_or("no file")?;
         let held = files.hold(file, 2, 4);

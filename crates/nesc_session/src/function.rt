@@ -1,7 +1,7 @@
 //! One function: what it has, and the requests that wait for it.
 ghost use Rattle.std.specs.Prelude.{◌≡◌, ◌+◌, ◌-◌, ◌<◌, ◌≤◌, true, length, nat_le, is_none, IfOk, IfSome, IsSomeAnd, Some};
-ghost use Rattle.nesc_base.specs.Requests.{Fits, blocks_of, first_of};
-ghost use Rattle.nesc_base.specs.declared.request.Kind.TheVariants.{Unmapped};
+ghost use Rattle.nesc_requests.specs.Requests.{Fits, blocks_of, first_of};
+ghost use Rattle.nesc_requests.specs.declared.request.Kind.TheVariants.{Unmapped};
 ghost use Rattle.file_model.specs.Functions.{fresh, has_file, is_ready, off};
 ghost use Rattle.file_model.specs.Submissions.{queueing};
 ghost use Rattle.script_lang.specs.Limits.{most_queued};
@@ -13,7 +13,8 @@ use crate::Outcome;
 use crate::files::Files;
 use circular_buffer::HeapCircularBuffer;
 use file_model::{Handled, How, Line};
-use nesc_base::{Block, End, FileNo, FnNo, Kind, Miss, NoMemory, Queued, Reply, Request};
+use nesc_base::{Block, FileNo, FnNo, NoMemory};
+use nesc_requests::{End, Kind, Miss, Queued, Reply, Request};
 use std::alloc::Global;
 use std::marker::Model;
 
@@ -186,7 +187,7 @@ fn reach(files: &mut Files, file: FileNo, v: u32, request: &mut Request, done: u
             Some(How::Walk(0))
         }
         Request::Write { from, .. } => {
-            if !files.write_held(file, v, from.get(done)) {
+            if !files.write_held(file, v, &from.get(done)) {
                 return None;
             }
             Some(How::Walk(0))

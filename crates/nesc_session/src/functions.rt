@@ -1,6 +1,6 @@
 //! All functions, which are numbered from 1.
 ghost use Rattle.std.specs.Prelude.{◌≡◌, ◌+◌, ◌<◌, ◌≤◌, None, length, option_map, replicate, IfOk, IfSome, MatchOption};
-ghost use Rattle.nesc_base.specs.Script.{numbered};
+ghost use Rattle.nesc_requests.specs.Script.{numbered};
 ghost use Rattle.std.specs.List.{position};
 ghost use Rattle.file_model.specs.Functions.{is_ready, is_taken, next_runnable, off};
 

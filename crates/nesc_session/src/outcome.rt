@@ -1,7 +1,7 @@
 ghost use Rattle.std.specs.Prelude.{◌≡◌, None, Some};
 
 use file_model::Line;
-use nesc_base::Reply;
+use nesc_requests::Reply;
 
 /// What one step came to.
 #[derive(Debug, Drop)]

@@ -25,7 +25,8 @@ use crate::functions::{index_of, is_taken, new_functions, next_index};
 use crate::opening::open_files;
 use file_model::{Handled, Line, Submission};
 use image_layout::OpenFault;
-use nesc_base::{Disk, FnNo, HostAnswer, HostCommand, Name, Word};
+use nesc_base::{Disk, FnNo, Name};
+use nesc_requests::{HostAnswer, HostCommand, Word};
 use script_lang::Commands;
 use std::alloc::Global;
 

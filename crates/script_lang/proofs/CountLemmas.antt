@@ -3,8 +3,8 @@ use Rattle.std.proofs.Common.{◌≡◌, ℕ, ◌-◌, ◌<◌, nat_le, Bool, tr
 use Rattle.std.proofs.lemmas.List.Sums.{sum_by-append, sum_by-cons}
 use Rattle.std.specs.List.{sum_by}
 use Rattle.toml.specs.Data.{Data, string, integer, float, boolean, datetime, array, table, Items, item}
-use Rattle.nesc_base.specs.Requests.{blocks_of}
-use Rattle.nesc_base.specs.declared.request.Request.{Request}
+use Rattle.nesc_requests.specs.Requests.{blocks_of}
+use Rattle.nesc_requests.specs.declared.request.Request.{Request}
 use Rattle.script_lang.specs.CommandsText.{each_of_items, each_at, enough_guests, guests_of_items, request_of}
 use Rattle.script_lang.specs.Limits.{most_blocks, most_functions}
 use Rattle.script_lang.specs.Parts.{TooMany}

@@ -6,10 +6,10 @@ use Rattle.std.specs.List.{AllByRecursion}
 use Rattle.text_kit.specs.Number.{number_of}
 use Rattle.toml.specs.Data.{Data, string, integer, float, boolean, datetime, array, table, Items, no_items, item}
 use Rattle.nesc_base.specs.Block.{zero_block}
-use Rattle.nesc_base.specs.BlockText.{block_of}
-use Rattle.nesc_base.specs.Requests.{Fits}
-use Rattle.nesc_base.specs.declared.host.HostCommand.{HostCommand}
-use Rattle.nesc_base.specs.declared.request.Request.{Request}
+use Rattle.nesc_base.specs.BlockText.{block_of_text}
+use Rattle.nesc_requests.specs.Requests.{Fits}
+use Rattle.nesc_requests.specs.declared.host.HostCommand.{HostCommand}
+use Rattle.nesc_requests.specs.declared.request.Request.{Request}
 use Rattle.script_lang.specs.declared.words.Separators.TheVariants.{Spaces}
 use Rattle.script_lang.specs.CommandsText.{up_to, number_to, from_one, count_of, blocks_of, read_of, write_of, request_of_words, request_of, is_trimmed, strings_of, each_of_items, guests_of_items, guests_at, enough_guests, guests_of}
 use Rattle.script_lang.specs.Left.{IsKept}
@@ -59,10 +59,10 @@ le_from_test false n is = cc
 
 blocks-within : (texts : List (List ℕ)) → IfSome (blocks_of texts) (λ blocks. length blocks ≤ 64)
 blocks-within texts =
-    if_some-when (λ blocks. length blocks ≤ 64) (nat_le 1 (length texts) && nat_le (length texts) 64) (each block_of texts)
+    if_some-when (λ blocks. length blocks ≤ 64) (nat_le 1 (length texts) && nat_le (length texts) 64) (each block_of_text texts)
     (λ is.
     let few : length texts ≤ 64 = le_from_test (nat_le 1 (length texts)) (length texts) is in
-    if_some-weaker (λ blocks. length blocks ≡ length texts) (λ blocks. length blocks ≤ 64) (each block_of texts) (each-length block_of texts) (λ blocks same. omega arith))
+    if_some-weaker (λ blocks. length blocks ≡ length texts) (λ blocks. length blocks ≤ 64) (each block_of_text texts) (each-length block_of_text texts) (λ blocks same. omega arith))
 
 read-fits : (words : List (List ℕ)) → IfSome (read_of words) Fits
 read-fits [] = tt

@@ -4,10 +4,10 @@ use Rattle.std.proofs.lemmas.List.{length-set, map-set}
 use Rattle.std.proofs.lemmas.Option.{slice_get-map}
 use Rattle.std.specs.List.{AllByRecursion}
 use Rattle.std.specs.Option.{unwrap_or}
-use Rattle.nesc_base.specs.Requests.{Fits}
-use Rattle.nesc_base.specs.Script.{Script, requests_of}
-use Rattle.nesc_base.specs.declared.host.HostCommand.{HostCommand}
-use Rattle.nesc_base.specs.declared.request.Request.{Request}
+use Rattle.nesc_requests.specs.Requests.{Fits}
+use Rattle.nesc_requests.specs.Script.{Script, requests_of}
+use Rattle.nesc_requests.specs.declared.host.HostCommand.{HostCommand}
+use Rattle.nesc_requests.specs.declared.request.Request.{Request}
 use Rattle.script_lang.specs.Left.{IsKept, Takes}
 
 all-at : {A : Type 0} (P : A → Type 0) (xs : List A) (i : ℕ) (x : A) → AllByRecursion P xs → slice_get xs i ≡ Some x → P x

@@ -4,7 +4,7 @@ use Rattle.toml.proofs.Views.{items_view-drop}
 use Rattle.toml.specs.Data.{Data, string, integer, float, boolean, datetime, array, table, Items, item}
 use Rattle.toml.specs.View.{view, items_view}
 use Rattle.toml.specs.declared.value.Value.{Value}
-use Rattle.nesc_base.specs.declared.request.Request.{Request}
+use Rattle.nesc_requests.specs.declared.request.Request.{Request}
 use Rattle.script_lang.specs.CommandsText.{strings_of, each_of_items, each_at, guests_of_items, request_of}
 use Rattle.script_lang.specs.Parts.{said_by}
 use Rattle.script_lang.specs.Words.{each, ◌>>=◌}

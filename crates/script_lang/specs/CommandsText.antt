@@ -6,16 +6,16 @@ use Rattle.text_kit.specs.Number.{number_of}
 use Rattle.toml.specs.Data.{Data, string, array, Items, no_items, item, Members, no_members, member, get_member}
 use Rattle.toml.specs.Parse.{parse_document}
 use Rattle.nesc_base.specs.Block.{zero_block}
-use Rattle.nesc_base.specs.BlockText.{block_of}
+use Rattle.nesc_base.specs.BlockText.{block_of_text}
 use Rattle.nesc_base.specs.Name.{name_of}
-use Rattle.nesc_base.specs.Requests as requests
-use Rattle.nesc_base.specs.Script.{Script}
+use Rattle.nesc_requests.specs.Requests as requests
+use Rattle.nesc_requests.specs.Script.{Script}
 use Rattle.nesc_base.specs.declared.block.Block.{Block}
-use Rattle.nesc_base.specs.declared.host.HostCommand.{HostCommand}
+use Rattle.nesc_requests.specs.declared.host.HostCommand.{HostCommand}
 use Rattle.nesc_base.specs.declared.numbers.FnNo.{FnNo}
-use Rattle.nesc_base.specs.declared.request.Request.{Request}
-use Rattle.nesc_base.specs.declared.request.Request.TheVariants.{Read, Write}
-use Rattle.nesc_base.specs.declared.host.HostCommand.TheVariants.{Create, Put, Get, Attach}
+use Rattle.nesc_requests.specs.declared.request.Request.{Request}
+use Rattle.nesc_requests.specs.declared.request.Request.TheVariants.{Read, Write}
+use Rattle.nesc_requests.specs.declared.host.HostCommand.TheVariants.{Create, Put, Get, Attach}
 use Rattle.script_lang.specs.declared.words.Separators.TheVariants.{Spaces}
 use Rattle.script_lang.specs.Words.{each, words_of, ◌>>=◌}
 use Rattle.script_lang.specs.Limits.{most_bytes, most_blocks, most_functions}
@@ -40,7 +40,7 @@ count_of text = number_from_one 64 text
 
 -- 1 to 64 blocks
 abbrev pub blocks_of : List (List ℕ) → Option (List Block)
-blocks_of texts = if nat_le 1 (length texts) && nat_le (length texts) 64 then each block_of texts else None
+blocks_of texts = if nat_le 1 (length texts) && nat_le (length texts) 64 then each block_of_text texts else None
 
 -- NAME LENGTH
 abbrev pub create_of : List (List ℕ) → Option HostCommand

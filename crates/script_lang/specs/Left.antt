@@ -1,9 +1,9 @@
 -- What is left of a script.
 use Rattle.std.specs.Prelude.{◌≡◌, ℕ, ◌^◌, ◌<◌, List, ◌∷◌, length}
 use Rattle.std.specs.List.{AllByRecursion}
-use Rattle.nesc_base.specs.Requests.{Fits}
-use Rattle.nesc_base.specs.Script.{Script, requests_of, with_numbered}
-use Rattle.nesc_base.specs.declared.request.Request.{Request}
+use Rattle.nesc_requests.specs.Requests.{Fits}
+use Rattle.nesc_requests.specs.Script.{Script, requests_of, with_numbered}
+use Rattle.nesc_requests.specs.declared.request.Request.{Request}
 
 -- the numbers of all blocks that are asked for fit their type, and so do the numbers of the guests
 pub record IsKept (script : Script) : Type 0 where

@@ -1,7 +1,7 @@
 -- What the parts of the texts are, as they are read.
 use Rattle.std.specs.Prelude.{ℕ, ◌<◌, List, [], ◌∷◌, Option, None, IfSome}
 use Rattle.toml.specs.Data.{Data, string}
-use Rattle.nesc_base.specs.declared.word.Word.{Word}
+use Rattle.nesc_requests.specs.declared.word.Word.{Word}
 use Rattle.script_lang.specs.declared.schedule.Steps.{Steps}
 use Rattle.script_lang.specs.declared.schedule.Steps.TheVariants.{One, Ticks}
 use Rattle.script_lang.specs.Limits.{most_blocks}

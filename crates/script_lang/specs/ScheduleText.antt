@@ -1,8 +1,8 @@
 -- Which texts are schedules, and which words they have.
 use Rattle.std.specs.Prelude.{ℕ, nat_le, if◌then◌else◌, List, [], ◌∷◌, ◌++◌, length, replicate, take, drop, codes, Option, Some, None, option_map}
 use Rattle.std.specs.Str.{bytes_eq}
-use Rattle.nesc_base.specs.declared.word.Word.{Word}
-use Rattle.nesc_base.specs.declared.word.Word.TheVariants.{T, G, H, I}
+use Rattle.nesc_requests.specs.declared.word.Word.{Word}
+use Rattle.nesc_requests.specs.declared.word.Word.TheVariants.{T, G, H, I}
 use Rattle.script_lang.specs.declared.words.Separators.TheVariants.{Blanks}
 use Rattle.script_lang.specs.Limits.{most_bytes, most_steps}
 use Rattle.script_lang.specs.CommandsText.{number_from_one, function_of}

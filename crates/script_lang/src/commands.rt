@@ -7,7 +7,8 @@ ghost use Rattle.script_lang.specs.declared.words.Separators.TheVariants.{Spaces
 
 use crate::fault::InputFault;
 use crate::words::{Separators, next_word};
-use nesc_base::{Blocks, FnNo, HostCommand, MOST_BLOCKS, Name, Request};
+use nesc_base::{Blocks, FnNo, LONGEST_FILE, MOST_IN_REQUEST, Name};
+use nesc_requests::{HostCommand, Request};
 use std::alloc::Global;
 use text_kit::{number, read_block};
 
@@ -68,7 +69,7 @@ fn create_of(words: &[&[u8]]) -> Option<HostCommand>
 {
     let [name, length] = words else { return None };
     let name = Name::read(name)?;
-    let length = number_to(1_048_576, length)? as u32;
+    let length = number_to(u64::from(LONGEST_FILE), length)? as u32;
     Some(HostCommand::Create { name, length })
 }
 
@@ -76,7 +77,7 @@ fn create_of(words: &[&[u8]]) -> Option<HostCommand>
 fn blocks_of(alloc: Global, texts: &[&[u8]]) -> Result<Blocks, InputFault>
     ensures { Reads result (blocks_of (map (λ text. text.now) texts.now)) }
 {
-    if texts.is_empty() || texts.len() > MOST_BLOCKS as usize {
+    if texts.is_empty() || texts.len() > MOST_IN_REQUEST as usize {
         return Err(InputFault::Refused);
     }
     let mut blocks = Blocks::zeros(alloc, texts.len() as u32)?;

@@ -1,5 +1,5 @@
 ghost use Rattle.std.specs.Prelude.{◌≡◌, ◌≤◌, ◌<◌, ◌∷◌, ◌++◌, [], List, Some, None, length, option_map, OnOk, IfOk, IfSome, IfNone, IsErrOf};
-ghost use Rattle.nesc_base.specs.declared.word.Word.{Word};
+ghost use Rattle.nesc_requests.specs.declared.word.Word.{Word};
 ghost use Rattle.script_lang.specs.Limits.{most_steps};
 ghost use Rattle.script_lang.specs.Reads.{Reads};
 ghost use Rattle.script_lang.specs.ScheduleText.{schedule_of, steps_of, steps_of_words, ticks};
@@ -10,7 +10,8 @@ ghost use Rattle.script_lang.specs.declared.words.Separators.TheVariants.{Blanks
 use crate::commands::{function_of, number_from_one};
 use crate::fault::InputFault;
 use crate::words::{Separators, next_word};
-use nesc_base::{NoMemory, Word};
+use nesc_base::NoMemory;
+use nesc_requests::Word;
 use std::alloc::Global;
 use std::collections::VecDeque;
 use std::marker::Model;

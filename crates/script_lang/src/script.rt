@@ -2,8 +2,8 @@ ghost use Rattle.std.specs.Prelude.{◌≡◌, ◌≤◌, ◌∷◌, [], ℕ, Li
 ghost use Rattle.std.specs.List.{sum_by};
 ghost use Rattle.toml.specs.Data.{array, get_member};
 ghost use Rattle.toml.specs.View.{view, items_view, table_view};
-ghost use Rattle.nesc_base.specs.Requests.{Fits, blocks_of};
-ghost use Rattle.nesc_base.specs.Script.{Script, numbered, requests_of};
+ghost use Rattle.nesc_requests.specs.Requests.{Fits, blocks_of};
+ghost use Rattle.nesc_requests.specs.Script.{Script, numbered, requests_of};
 ghost use Rattle.script_lang.specs.CommandsText.{IsCommandsText, blocks_in, blocks_in_all, each_at, each_of_items, enough_blocks, enough_guests, guests_at, guests_of, guests_of_items, has_known_keys, host_command_of, request_of, script_of, script_of_members};
 ghost use Rattle.script_lang.specs.Left.{Takes};
 ghost use Rattle.script_lang.specs.Limits.{most_blocks, most_functions};
@@ -13,7 +13,8 @@ ghost use Rattle.script_lang.specs.Reads.{Reads};
 use crate::commands::{MOST_FUNCTIONS, host_command_of, request_of};
 use crate::fault::InputFault;
 use crate::schedule::MOST_BYTES;
-use nesc_base::{FnNo, HostCommand, NoMemory, Request};
+use nesc_base::{FnNo, NoMemory};
+use nesc_requests::{HostCommand, Request};
 use std::alloc::Global;
 use std::collections::VecDeque;
 use std::marker::Model;
@@ -31,7 +32,7 @@ pub struct Commands {
 
 impl Model for Commands {
     ghost use Rattle.std.specs.Prelude.{map};
-    ghost use Rattle.nesc_base.specs.Script.{Script};
+    ghost use Rattle.nesc_requests.specs.Script.{Script};
     ghost use Rattle.script_lang.specs.Left.{IsKept};
 
     ghost Value = { Script };

@@ -1,5 +1,6 @@
 use crate::{InputFault, read_commands, read_schedule};
-use nesc_base::{FnNo, HostCommand, Request, Word};
+use nesc_base::FnNo;
+use nesc_requests::{HostCommand, Request, Word};
 use std::test::Fail;
 
 #[test]

@@ -1,17 +1,13 @@
 -- Writing one text after another.
-use Rattle.std.proofs.Common.{◌≡◌, ℕ, ◌≤◌, List, [], ◌++◌, Option, Some, None, Result, Ok, Err, IsErr, refl, sym, ap, subst, ◌∙◌, arith, inl, inr, append-nil, append_assoc}
+use Rattle.std.proofs.Common.{◌≡◌, ℕ, List, [], ◌++◌, Option, Some, None, Result, Ok, Err, IsErr, refl, sym, ap, subst, ◌∙◌, arith, append-nil, append_assoc}
 use Rattle.std.proofs.lemmas.Result.{on_ok_weaker, IfOk-from_err}
 use Rattle.nesc_base.specs.Fault.{Rose}
 use Rattle.nesc_base.specs.Sink.{Appends, Grows, Lent, StaysLent}
 use Rattle.nesc_base.specs.declared.sink.WriteFault.{WriteFault}
+use Rattle.nesc_base.proofs.Causes.{cause_on}
 use Rattle.text_kit.specs.Known.{AppendsPrefix}
 use Rattle.text_kit.specs.Writes.{Writes}
 use Rattle.text_kit.proofs.KnownLemmas.{Appends-append, AppendsPrefix-left, AppendsPrefix-right}
-
--- what rose from a later count rose from an earlier one
-pub Rose-earlier : (a b c : ℕ) → a ≤ b → Rose b c → Rose a c
-Rose-earlier a b c before (inl rose) = inl (omega arith)
-Rose-earlier a b c before (inr most) = inr most
 
 -- what only grew, and grew again, only grew
 pub Grows-then : (old mid new : Option (List ℕ)) → Grows old mid → Grows mid new → Grows old new
@@ -37,10 +33,7 @@ module _ {K : Type 0} (taken : K → Option (List ℕ)) (faults : K → ℕ) (le
     all = on_ok_weaker answer (Appends-append (taken old) (taken mid) (taken new) xs ys one.all) other.all;
     first = AppendsPrefix-right (taken old) (taken mid) (taken new) xs ys one.all other.first;
     stays_lent = StaysLent-then (lent old) (lent mid) (lent new) one.stays_lent other.stays_lent;
-    cause = record {
-      never_falls = omega (arith, one.cause.never_falls, other.cause.never_falls);
-      rose = λ failed. Rose-earlier (faults old) (faults mid) (faults new) one.cause.never_falls (other.cause.rose failed);
-    };
+    cause = cause_on (faults old) (faults mid) (faults new) (IsErr answer) one.cause.never_falls other.cause;
   }
 
   -- where a text was cut short, so is a longer one

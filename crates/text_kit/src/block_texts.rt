@@ -1,26 +1,22 @@
-ghost use Rattle.std.specs.Prelude.{◌≡◌, ◌*◌, length, option_map, take};
+ghost use Rattle.std.specs.Prelude.{◌≡◌, ◌*◌, Some, length, option_map};
 ghost use Rattle.std.specs.Result.{result_ok};
-ghost use Rattle.std.specs.Str.{bytes_eq};
 ghost use Rattle.hex.specs.Hex.{decode_of, encode_lower};
-ghost use Rattle.nesc_base.specs.BlockText.{block_of, block_text, repeated};
+ghost use Rattle.nesc_base.specs.BlockText.{block_of_text, block_text, repeated};
 ghost use Rattle.text_kit.specs.Writes.{Writes};
 
 use crate::write_text;
-use nesc_base::{BLOCK_BYTES, Block, Sink, WriteFault};
-
-/// How many bytes stand in the text of a block that repeats them.
-const PERIOD: usize = 8;
+use nesc_base::{BLOCK_BYTES, Block, PERIOD_BYTES, Sink, WriteFault};
 
 /// How many digits the text of a block has where it repeats, and where it does not.
-const REPEATED_DIGITS: usize = 16;
+const REPEATED_DIGITS: usize = 2 * PERIOD_BYTES;
 
-const WHOLE_DIGITS: usize = 2048;
+const WHOLE_DIGITS: usize = 2 * BLOCK_BYTES;
 
 /// The block that the text writes: `z` is the block of zeros, 16 hexadecimal digits are eight bytes that repeat,
 /// and 2048 digits are all bytes of the block, in digits of either case. `None` where the text is anything else.
-#[tactic(auto, unfolding(nesc_base::specs::BlockText::block_of))]
+#[tactic(auto, unfolding(nesc_base::specs::BlockText::block_of_text))]
 pub fn read_block(text: &[u8]) -> Option<Block>
-    ensures { result ≡ block_of text.now }
+    ensures { result ≡ block_of_text text.now }
 {
     if text == b"z".as_slice() {
         return Some(Block::zero());
@@ -38,7 +34,7 @@ fn read_repeated(digits: &[u8]) -> Option<Block>
     ensures { result ≡ option_map repeated (result_ok (decode_of digits.now)) }
 {
     let bytes = decode(digits)?;
-    Some(repeat(&bytes))
+    Some(Block::repeated(&bytes))
 }
 
 /// The block whose bytes all stand in the digits.
@@ -57,7 +53,7 @@ pub fn write_block<K: Sink>(sink: &mut K, block: &Block) -> Result<(), WriteFaul
     ensures written { Writes K.taken K.faults K.lent sink.old sink.new (block_text block.now) result }
 
     // The text reads as the block again.
-    ensures again { block_of (block_text block.now) ≡ Some block.now }
+    ensures again { block_of_text (block_text block.now) ≡ Some block.now }
 {
     let mut digits = [0; WHOLE_DIGITS];
     write_text(sink, text_of(&block.0, &mut digits))
@@ -66,24 +62,16 @@ pub fn write_block<K: Sink>(sink: &mut K, block: &Block) -> Result<(), WriteFaul
 /// The shortest text of the block of these bytes, for which it is given the room.
 fn text_of<'a>(bytes: &[u8; BLOCK_BYTES], digits: &'a mut [u8; WHOLE_DIGITS]) -> &'a [u8]
     ensures text { result.now ≡ block_text (record { 0 = bytes.now }) }
-    ensures again { block_of result.now ≡ Some (record { 0 = bytes.now }) }
+    ensures again { block_of_text result.now ≡ Some (record { 0 = bytes.now }) }
 {
-    if *bytes == Block::zero().0 {
-        b"z"
-    } else if repeats(bytes) {
-        digits_of(&bytes[..PERIOD], &mut digits[..REPEATED_DIGITS])
-    } else {
-        digits_of(bytes, digits)
+    let block = Block(*bytes);
+    if block == Block::zero() {
+        return b"z";
     }
-}
-
-/// Whether the bytes repeat the first eight of them.
-fn repeats(bytes: &[u8; BLOCK_BYTES]) -> bool
-    ensures { result ≡ bytes_eq bytes.now (repeated (take 8 bytes.now)).0 }
-{
-    let mut period = [0; PERIOD];
-    period.copy_from_slice(&bytes[..PERIOD]);
-    *bytes == repeat(&period).0
+    match block.period() {
+        Some(period) => digits_of(&period, &mut digits[..REPEATED_DIGITS]),
+        None => digits_of(bytes, digits),
+    }
 }
 
 /// The digits of the bytes, for which it is given the room.
@@ -105,15 +93,4 @@ fn decode<const N: usize>(digits: &[u8]) -> Option<[u8; N]>
     let mut bytes = [0; N];
     hex::decode_to_slice(digits, &mut bytes).ok()?;
     Some(bytes)
-}
-
-/// The block that has the eight bytes 128 times.
-fn repeat(bytes: &[u8; PERIOD]) -> Block
-    ensures { result ≡ repeated bytes.now }
-{
-    let mut all = [0; BLOCK_BYTES];
-    for k in 0..BLOCK_BYTES / PERIOD {
-        all[k * PERIOD..(k + 1) * PERIOD].copy_from_slice(bytes);
-    }
-    Block(all)
 }

@@ -5,4 +5,4 @@ pub returns-clause-none : goal.returns-clause-none
 returns-clause-none c = IsFileSet-empty
 
 pub returns-clause-changes : goal.returns-clause-changes
-returns-clause-changes c = λ change old new set changes. IsFileSet-Changes old change new set changes
+returns-clause-changes c = λ change may old new set changes. IsFileSet-Changes old change new may set changes

@@ -2,7 +2,7 @@ use Rattle.std.proofs.Common.{◌≡◌, None, Some, get_or, length, slice_get, 
 use Rattle.std.proofs.lemmas.Option.{slice_get-get_or}
 use Rattle.nesc_base.specs.declared.block.Block.{Block}
 use Rattle.image_layout.specs.Owners.{owner_block, owner_bytes}
-use Rattle.image_layout.proofs.Pieces.{IsSpelledTo-more, spelled_from_to}
+use Rattle.slot_layout.proofs.Pieces.{IsSpelledTo-more, spelled_from_to}
 use Rattle.image_layout.proofs.owners.owner_block.Goals as goal
 
 pub loop-k-preserved : goal.loop-k-preserved

@@ -1,5 +1,5 @@
 use Rattle.image_layout.specs.Owners.{owner_bytes}
-use Rattle.image_layout.proofs.Pieces.{IsSpelledTo}
+use Rattle.slot_layout.proofs.Pieces.{IsSpelledTo}
 use Rattle.image_layout.proofs.owners.owner_block.Given as goal
 
 -- each owner so far is spelled at its place

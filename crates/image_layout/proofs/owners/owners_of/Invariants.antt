@@ -1,6 +1,6 @@
 use Rattle.std.proofs.Common.{◌≡◌, IfSome, length}
 use Rattle.image_layout.specs.Owners.{MayOwn, owner_bytes}
-use Rattle.image_layout.proofs.Pieces.{HoldsBelow, piece}
+use Rattle.slot_layout.proofs.Pieces.{HoldsBelow, piece}
 use Rattle.image_layout.proofs.owners.owners_of.Given as goal
 
 -- each owner so far is one that its entry may have, and its spelling stands at its place

@@ -17,7 +17,7 @@ pub loop-e-preserved : goal.loop-e-preserved
 loop-e-preserved c =
     let lengths = lengths_of c.args.table.now in
     let here : slice_get lengths c.loop-e.e ≡ Some c.map.result =
-    slice_get-map (option_map (λ (entry : TableEntry). entry.length)) c.args.table.now c.loop-e.e ∙ ap (option_map (option_map (λ (entry : TableEntry). entry.length))) c.get.ensures
+    slice_get-map (option_map (λ (entry : TableEntry). entry.length)) c.args.table.now c.loop-e.e ∙ ap (option_map (option_map (λ (entry : TableEntry). entry.length))) c.get.ensures.entry
     ∙ ap Some (mapped _ c.get.result c.map.result c.map.ensures.cases (λ x n is. search rules)) in
     let last : get_or lengths c.loop-e.e c.map.result ≡ c.map.result = get_or_from_slice_get lengths c.loop-e.e c.map.result c.map.result here in
     let within = slice_get_within lengths c.loop-e.e c.map.result here in

@@ -6,8 +6,8 @@ use Rattle.image_layout.specs.declared.fault.ImageFault.TheVariants.{BadTable, T
 use Rattle.image_layout.specs.declared.fault.OpenFault.TheVariants.{Image}
 use Rattle.image_layout.specs.Opens.{Says}
 use Rattle.image_layout.specs.Refusal.{IsRefused, LacksTable, OwnsTwice}
-use Rattle.image_layout.specs.Slots.{block_at}
-use Rattle.image_layout.proofs.SlotLemmas.{get_or-block_at, take-written}
+use Rattle.slot_layout.specs.Slots.{block_at}
+use Rattle.slot_layout.proofs.SlotLemmas.{get_or-block_at, take-written}
 use Rattle.image_layout.proofs.plain.open_blocks.Goals as goal
 use Rattle.image_layout.proofs.plain.open_blocks.Goals.{After-table_of}
 
@@ -30,18 +30,15 @@ pub returns-in_err-table-clause-refused : goal.returns-in_err-table-clause-refus
 returns-in_err-table-clause-refused c fault is =
     let here = table_here (goal.at.returns-in_err-table-clause-refused c).After-table_of in
     let no_table = rw c.in_err-table.ensures.ok_part at c.table_of.ensures in
-    let lacks : LacksTable c.args.image.now c.table_at-table_at.result = record {
-      geometry = c.in_ok-geometry.geometry;
-      divided = c.in_ok-geometry.ensures;
-      laid = c.lay_slots.new.laid;
-      lays = c.in_ok-lay_slots.ensures;
+    let lacks : LacksTable c.in_ok-geometry.geometry c.lay_slots.new.laid c.table_at-table_at.result = record {
       none = λ entries table. no_table (entries, rw here table);
       at = c.table_at-table_at.ensures;
     } in
     let gives : c.from_residual-in_err-table.result ≡ Err (Image c.in_err-table.field-0.0) = search rules in
     let value = rw c.in_err-table.ensures.ok_part at c.in_err-table.ensures.value in
     let same : BadTable c.table_at-table_at.result ≡ fault = cc in
-    subst (IsRefused c.args.image.now) same lacks
+    subst (IsRefused c.args.image.now) same
+    (record { geometry = c.in_ok-geometry.geometry; divided = c.in_ok-geometry.ensures; laid = c.lay_slots.new.laid; lays = c.in_ok-lay_slots.ensures; has = lacks })
 
 pub returns-in_err-owners-clause-refused : goal.returns-in_err-owners-clause-refused
 returns-in_err-owners-clause-refused c fault is =
@@ -58,11 +55,7 @@ returns-in-Some-clause-refused c fault is =
     let stands : c.deref.result.now ≡ c.lay_slots.new.laid = c.deref.ensures.value ∙ laid_whole after in
     let file = c.in-Some.file in
     let v : ℕ = c.in-Some.v in
-    let twice : OwnsTwice c.args.image.now (file, v) = record {
-      geometry = c.in_ok-geometry.geometry;
-      divided = c.in_ok-geometry.ensures;
-      laid = c.lay_slots.new.laid;
-      lays = c.in_ok-lay_slots.ensures;
+    let twice : OwnsTwice c.in_ok-geometry.geometry c.lay_slots.new.laid (file, v) = record {
       entries = c.in_ok-table.table;
       table = rw (table_here after) at (rw c.in_ok-table.ensures.ok_part at c.table_of.ensures);
       owners = c.deref-2.result.now;
@@ -72,7 +65,8 @@ returns-in-Some-clause-refused c fault is =
       first = c.in-Some.ensures.2;
     } in
     let same : TwiceOwned file v ≡ fault = cc in
-    subst (IsRefused c.args.image.now) same twice
+    subst (IsRefused c.args.image.now) same
+    (record { geometry = c.in_ok-geometry.geometry; divided = c.in_ok-geometry.ensures; laid = c.lay_slots.new.laid; lays = c.in_ok-lay_slots.ensures; has = twice })
 
 pub returns-clause-says : goal.returns-clause-says
 returns-clause-says c =
@@ -81,8 +75,10 @@ returns-clause-says c =
     let says : Says c.args.image.now c.in_ok-geometry.geometry c.lay_slots.new.laid c.in_ok-table.table c.in_ok-owners.owners.items = record {
       divided = c.in_ok-geometry.ensures;
       lays = c.in_ok-lay_slots.ensures;
-      table = rw (table_here after) at (rw c.in_ok-table.ensures.ok_part at c.table_of.ensures);
-      owned = rw stands at c.in_ok-owners.ensures.owned;
-      once = rw c.deref-2.ensures.value at c.in_default.ensures;
+      parts = record {
+        table = rw (table_here after) at (rw c.in_ok-table.ensures.ok_part at c.table_of.ensures);
+        owned = rw stands at c.in_ok-owners.ensures.owned;
+        once = rw c.deref-2.ensures.value at c.in_default.ensures;
+      };
     } in
     rw (laid_whole after) says

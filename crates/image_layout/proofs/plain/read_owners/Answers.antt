@@ -5,9 +5,9 @@ use Rattle.image_layout.specs.declared.fault.OpenFault.TheVariants.{Image}
 use Rattle.image_layout.specs.Opens.{IsMapBlock}
 use Rattle.image_layout.specs.Owners.{Owner}
 use Rattle.image_layout.specs.Refusal.{IsRefused, LacksOwners}
-use Rattle.image_layout.specs.Slots.{block_at}
+use Rattle.slot_layout.specs.Slots.{block_at}
 use Rattle.image_layout.proofs.MapBlocks.{each_more}
-use Rattle.image_layout.proofs.SlotLemmas.{get_or-block_at}
+use Rattle.slot_layout.proofs.SlotLemmas.{get_or-block_at}
 use Rattle.image_layout.proofs.plain.read_owners.Goals as goal
 use Rattle.image_layout.proofs.plain.read_owners.Goals.{After-owners_of}
 
@@ -24,11 +24,7 @@ returns-in_err-found-clause-refused c image divided lays table fault is =
     let here = block_here (goal.at.returns-in_err-found-clause-refused c).After-owners_of in
     let place : ℕ = c.map_at-map_at.result + c.loop-b.b in
     let no_owners = rw c.in_err-found.ensures.ok_part at c.owners_of.ensures in
-    let lacks : LacksOwners image place = record {
-      geometry = c.args.geometry;
-      divided = divided;
-      laid = c.args.laid.now;
-      lays = lays;
+    let lacks : LacksOwners c.args.geometry c.args.laid.now place = record {
       entries = c.args.table.now;
       table = table;
       b = c.loop-b.b;
@@ -40,7 +36,7 @@ returns-in_err-found-clause-refused c image divided lays table fault is =
     let gives : c.from_residual.result ≡ Err (Image c.in_err-found.field-0.0) = search rules in
     let value = rw c.in_err-found.ensures.ok_part at c.in_err-found.ensures.value in
     let same : BadOwner place ≡ fault = cc in
-    subst (IsRefused image) same lacks
+    subst (IsRefused image) same (record { geometry = c.args.geometry; divided = divided; laid = c.args.laid.now; lays = lays; has = lacks })
 
 pub loop-b-preserved : goal.loop-b-preserved
 loop-b-preserved c =

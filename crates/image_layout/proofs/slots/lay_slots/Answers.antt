@@ -2,11 +2,10 @@ use Rattle.std.proofs.Common.{◌≡◌, ℕ, ◌+◌, ◌-◌, [], Err, List, i
 use Rattle.nesc_base.specs.declared.block.Block.{Block}
 use Rattle.nesc_base.specs.Geometry.{list_blocks, slot_at, slot_room}
 use Rattle.image_layout.specs.declared.fault.ImageFault.TheVariants.{BadList}
-use Rattle.image_layout.specs.Gate.{is_open}
-use Rattle.image_layout.specs.Refusal.{LacksList}
-use Rattle.image_layout.specs.Slots.{AreOpen, LaidOver, gate, laid_over, list_at}
-use Rattle.image_layout.specs.Targets.{IsListOf}
-use Rattle.image_layout.proofs.SlotLemmas.{AreOpen-more, LaidOver-more, gate_within, get_or-block_at, take-blocks_from}
+use Rattle.slot_layout.specs.Gate.{is_open}
+use Rattle.slot_layout.specs.Slots.{AreOpen, LacksList, LaidOver, gate, laid_over, list_at}
+use Rattle.slot_layout.specs.Targets.{IsListOf}
+use Rattle.slot_layout.proofs.SlotLemmas.{AreOpen-more, LaidOver-more, gate_within, get_or-block_at, take-blocks_from}
 use Rattle.image_layout.proofs.slots.lay_slots.Goals as goal
 use Rattle.image_layout.proofs.slots.lay_slots.Goals.{After-is_open}
 
@@ -43,9 +42,7 @@ returns-in_err-count c =
     let list_is = take-blocks_from image list_from (list_from + c.list_blocks.result) (list_at c.args.geometry (before + 1)) (list_blocks c.args.geometry)
     begins (omega (arith, begins, c.list_blocks.ensures)) in
     let no_list = rw c.in_err-count.ensures.ok_part at c.list_of.ensures in
-    let lacks : LacksList image list_from = record {
-      geometry = c.args.geometry;
-      divided = c.requires.divided;
+    let lacks : LacksList c.args.geometry image list_from = record {
       before = before;
       laid = c.loop-k.laid;
       over = c.loop-k.invariant.over;
@@ -56,7 +53,7 @@ returns-in_err-count c =
     } in
     let gives : c.from_residual.result ≡ Err c.in_err-count.field-0.0 = search rules in
     let fault_is : c.in_err-count.field-0.0 ≡ BadList list_from = let value = rw c.in_err-count.ensures.ok_part at c.in_err-count.ensures.value in cc in
-    rw (gives, fault_is) lacks
+    rw (gives, fault_is) (c.args.geometry, c.requires.divided, lacks)
 
 pub loop-k-preserved : goal.loop-k-preserved
 loop-k-preserved c =

@@ -1,5 +1,5 @@
 use Rattle.std.proofs.Common.{◌-◌}
-use Rattle.image_layout.specs.Slots.{AreOpen, LaidOver}
+use Rattle.slot_layout.specs.Slots.{AreOpen, LaidOver}
 use Rattle.image_layout.proofs.slots.lay_slots.Given as goal
 
 -- the slots before slot k are open, and are laid over

@@ -1,6 +1,6 @@
 use Rattle.std.proofs.Common.{◌≡◌, [], ◌++◌, codes, refl, ap, ◌∙◌}
 use Rattle.nesc_base.specs.Block.{zero_block}
-use Rattle.image_layout.specs.Bytes.{block_of_bytes, four_bytes, padded}
+use Rattle.slot_layout.specs.Bytes.{block_of_bytes, four_bytes, padded}
 use Rattle.image_layout.specs.Super.{superblock}
 use Rattle.image_layout.proofs.superblock.write_super.Goals as goal
 

@@ -1,7 +1,7 @@
 use Rattle.std.proofs.Common.{◌≡◌, Some, get_or, slice_get, sym, ap, ◌∙◌, arith}
 use Rattle.std.proofs.lemmas.Option.{slice_get-get_or}
 use Rattle.image_layout.specs.Table.{entry_bytes, table_block}
-use Rattle.image_layout.proofs.Pieces.{IsSpelledTo-more, spelled_from_to}
+use Rattle.slot_layout.proofs.Pieces.{IsSpelledTo-more, spelled_from_to}
 use Rattle.image_layout.proofs.table.table_block.Goals as goal
 
 pub loop-e-preserved : goal.loop-e-preserved

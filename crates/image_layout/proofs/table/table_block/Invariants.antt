@@ -1,5 +1,5 @@
 use Rattle.image_layout.specs.Table.{entry_bytes}
-use Rattle.image_layout.proofs.Pieces.{IsSpelledTo}
+use Rattle.slot_layout.proofs.Pieces.{IsSpelledTo}
 use Rattle.image_layout.proofs.table.table_block.Given as goal
 
 -- each entry so far is spelled at its place

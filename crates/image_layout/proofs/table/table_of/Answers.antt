@@ -4,7 +4,7 @@ use Rattle.std.proofs.lemmas.Option.{slice_get-get_or, slice_get_within}
 use Rattle.std.specs.List.{All}
 use Rattle.image_layout.specs.Table.{Fits, entry_bytes, table_block}
 use Rattle.image_layout.specs.declared.table.TableEntry.{TableEntry}
-use Rattle.image_layout.proofs.Pieces.{HoldsBelow-more, piece, spelled_from_pieces}
+use Rattle.slot_layout.proofs.Pieces.{HoldsBelow-more, piece, spelled_from_pieces}
 use Rattle.image_layout.proofs.TableLemmas.{entry_at, entry_at-one}
 use Rattle.image_layout.proofs.table.table_of.Goals as goal
 

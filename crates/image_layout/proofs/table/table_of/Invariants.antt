@@ -1,6 +1,6 @@
 use Rattle.std.proofs.Common.{◌≡◌, length}
 use Rattle.image_layout.specs.Table.{Fits, entry_bytes}
-use Rattle.image_layout.proofs.Pieces.{HoldsBelow, piece}
+use Rattle.slot_layout.proofs.Pieces.{HoldsBelow, piece}
 use Rattle.image_layout.proofs.table.table_of.Given as goal
 
 -- each entry so far is one that there may be, and its spelling stands at its place

@@ -7,11 +7,12 @@ use Rattle.image_layout.specs.declared.fault.ImageFault.TheVariants.{BadOwner}
 use Rattle.image_layout.specs.declared.fault.OpenFault.TheVariants.{Image}
 use Rattle.image_layout.specs.Opens.{IsMapBlock, lengths_of}
 use Rattle.image_layout.specs.Owners.{Owner}
-use Rattle.image_layout.specs.Refusal.{LacksOwners}
-use Rattle.image_layout.specs.Slots.{block_at}
+use Rattle.image_layout.specs.Refusal.{DoesNotOpen, LacksOwners}
+use Rattle.slot_layout.specs.Slots.{block_at}
 use Rattle.image_layout.proofs.MapBlocks.{each_more}
 use Rattle.image_opening.specs.Parts.{IsTurnedDown}
-use Rattle.image_opening.proofs.PartsLemmas.{MayOwnBlock, block_here, closed_here, lays_itself, may_all}
+use Rattle.slot_layout.proofs.Alike.{lays_itself}
+use Rattle.image_opening.proofs.PartsLemmas.{MayOwnBlock, block_here, closed_here, may_all}
 use Rattle.image_opening.proofs.parts.read_owners.Goals as goal
 
 pub returns-in_err-found-clause-refused : goal.returns-in_err-found-clause-refused
@@ -24,11 +25,7 @@ returns-in_err-found-clause-refused g c tells divided closed table fault is =
     block_here old (g.D.Disk.known c.loop-b.disk) c.in_ok-map_block.map_block place (map_at c.args.geometry + c.loop-b.b) tells
     c.loop-b.invariant.goes c.loop-b.invariant.unchanged c.in_ok-map_block.ensures.block at in
     let no_owners = rw c.in_err-found.ensures.ok_part at c.owners_of.ensures in
-    let lacks : LacksOwners image place = record {
-      geometry = c.args.geometry;
-      divided = divided;
-      laid = image;
-      lays = lays_itself c.args.geometry image closed;
+    let lacks : LacksOwners c.args.geometry image place = record {
       entries = c.args.table.now;
       table = table;
       b = c.loop-b.b;
@@ -40,7 +37,14 @@ returns-in_err-found-clause-refused g c tells divided closed table fault is =
     let gives : c.from_residual-in_err-found.result ≡ Err (Image c.in_err-found.field-0.0) = search rules in
     let value = rw c.in_err-found.ensures.ok_part at c.in_err-found.ensures.value in
     let same : BadOwner place ≡ fault = cc in
-    subst (IsTurnedDown image) same (lacks, closed_here image c.args.geometry divided closed)
+    let refused : DoesNotOpen image (BadOwner place) = record {
+      geometry = c.args.geometry;
+      divided = divided;
+      laid = image;
+      lays = lays_itself c.args.geometry image closed;
+      has = lacks;
+    } in
+    subst (IsTurnedDown image) same (refused, closed_here image c.args.geometry divided closed)
 
 pub loop-b-preserved : goal.loop-b-preserved
 loop-b-preserved g c =

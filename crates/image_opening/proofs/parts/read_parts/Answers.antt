@@ -6,11 +6,12 @@ use Rattle.nesc_base.specs.Geometry.{slot_at, table_at}
 use Rattle.nesc_base.proofs.DiskCalls.{goes_on, unchanged_on}
 use Rattle.image_layout.specs.declared.fault.ImageFault.TheVariants.{BadTable}
 use Rattle.image_layout.specs.declared.fault.OpenFault.TheVariants.{Image}
-use Rattle.image_layout.specs.Gate.{is_open}
-use Rattle.image_layout.specs.Refusal.{LacksTable}
-use Rattle.image_layout.specs.Slots.{block_at, gate}
+use Rattle.slot_layout.specs.Gate.{is_open}
+use Rattle.image_layout.specs.Refusal.{DoesNotOpen, LacksTable}
+use Rattle.slot_layout.specs.Slots.{block_at, gate}
 use Rattle.image_opening.specs.Parts.{IsTurnedDown}
-use Rattle.image_opening.proofs.PartsLemmas.{block_here, closed_here, lays_itself, turned_down}
+use Rattle.slot_layout.proofs.Alike.{lays_itself}
+use Rattle.image_opening.proofs.PartsLemmas.{block_here, closed_here, turned_down}
 use Rattle.image_opening.proofs.parts.read_parts.Goals as goal
 
 pub returns-in_err-table-clause-refused : goal.returns-in_err-table-clause-refused
@@ -30,18 +31,21 @@ returns-in_err-table-clause-refused g c tells fault is =
     block_here old gated c.in_ok-table_block.table_block c.table_at-table_at.result (table_at geometry) tells goes stays
     c.in_ok-table_block.ensures.block c.table_at-table_at.ensures in
     let no_table = rw c.in_err-table.ensures.ok_part at c.table_of.ensures in
-    let lacks : LacksTable image c.table_at-table_at.result = record {
-      geometry = geometry;
-      divided = c.in_ok-geometry.ensures.divided tells;
-      laid = image;
-      lays = lays_itself geometry image closed;
+    let lacks : LacksTable geometry image c.table_at-table_at.result = record {
       none = λ entries table. no_table (entries, rw here table);
       at = c.table_at-table_at.ensures;
     } in
     let gives : c.from_residual-in_err-table.result ≡ Err (Image c.in_err-table.field-0.0) = search rules in
     let value = rw c.in_err-table.ensures.ok_part at c.in_err-table.ensures.value in
     let same : BadTable c.table_at-table_at.result ≡ fault = cc in
-    subst (IsTurnedDown image) same (lacks, closed_here image geometry (c.in_ok-geometry.ensures.divided tells) closed)
+    let refused : DoesNotOpen image (BadTable c.table_at-table_at.result) = record {
+      geometry = geometry;
+      divided = c.in_ok-geometry.ensures.divided tells;
+      laid = image;
+      lays = lays_itself geometry image closed;
+      has = lacks;
+    } in
+    subst (IsTurnedDown image) same (refused, closed_here image geometry (c.in_ok-geometry.ensures.divided tells) closed)
 
 pub returns-in_err-geometry-clause-refused : goal.returns-in_err-geometry-clause-refused
 returns-in_err-geometry-clause-refused g c tells fault is =

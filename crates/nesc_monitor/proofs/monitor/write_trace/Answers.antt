@@ -1,7 +1,8 @@
 use Rattle.std.proofs.Common.{refl, arith}
 use Rattle.std.proofs.lemmas.Result.{on_ok_weaker}
 use Rattle.std.specs.FinMap.{empty}
-use Rattle.text_kit.proofs.WritesLemmas.{Grows-then, Rose-earlier}
+use Rattle.nesc_base.proofs.Causes.{rose_earlier}
+use Rattle.text_kit.proofs.WritesLemmas.{Grows-then}
 use Rattle.nesc_monitor.proofs.TellLemmas.{Appends-flushed, AppendsPrefix-cut, AppendsPrefix-flushed}
 use Rattle.nesc_monitor.proofs.monitor.write_trace.Goals as goal
 
@@ -44,7 +45,7 @@ returns-in-Ok-clause-cause g c =
     let flushed = c.flush.ensures.cause in
     record {
       never_falls = omega (arith, told.never_falls, flushed.never_falls);
-      rose = λ failed. Rose-earlier _ _ _ told.never_falls (flushed.rose failed);
+      rose = λ failed. rose_earlier 1 _ _ _ told.never_falls (flushed.rose failed);
     }
 
 pub returns-in-Err-clause-lent : goal.returns-in-Err-clause-lent

@@ -1,5 +1,5 @@
 use Rattle.std.proofs.Common.{◌≡◌, drop, length, map, take}
-use Rattle.nesc_base.specs.BlockText.{block_of}
+use Rattle.nesc_base.specs.BlockText.{block_of_text}
 use Rattle.script_lang.specs.Words.{each}
 use Rattle.script_lang.proofs.EachLemmas.{onto}
 use Rattle.script_lang.proofs.commands.blocks_of.Given as goal
@@ -8,5 +8,5 @@ use Rattle.script_lang.proofs.commands.blocks_of.Given as goal
 abbrev pub invariant-loop-k : goal.invariant-loop-k
 invariant-loop-k l = record {
   room : length l.blocks ≡ length l.texts;
-  done : onto (take l.k l.blocks) (each block_of (map (λ text. text.now) (drop l.k l.texts))) ≡ each block_of (map (λ text. text.now) l.texts);
+  done : onto (take l.k l.blocks) (each block_of_text (map (λ text. text.now) (drop l.k l.texts))) ≡ each block_of_text (map (λ text. text.now) l.texts);
 }

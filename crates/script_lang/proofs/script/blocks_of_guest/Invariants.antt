@@ -1,6 +1,6 @@
 use Rattle.std.proofs.Common.{◌≡◌, map, min}
 use Rattle.std.specs.List.{sum_by}
-use Rattle.nesc_base.specs.Requests.{blocks_of}
+use Rattle.nesc_requests.specs.Requests.{blocks_of}
 use Rattle.script_lang.proofs.script.blocks_of_guest.Given as goal
 
 -- the sum over the requests so far

@@ -1,6 +1,6 @@
 use Rattle.std.proofs.Common.{◌≡◌, map, min, take}
 use Rattle.std.specs.List.{sum_by}
-use Rattle.nesc_base.specs.Requests.{blocks_of}
+use Rattle.nesc_requests.specs.Requests.{blocks_of}
 use Rattle.script_lang.proofs.script.blocks_of_guests.Given as goal
 
 -- the sum over the guests so far

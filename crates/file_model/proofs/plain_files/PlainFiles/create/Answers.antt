@@ -15,12 +15,12 @@ made c =
       unnamed = c.requires.unnamed;
       lowest = c.requires.lowest;
       result = one_inserted files c.insert.new.self.entries n c.new.result c.in_ok-insert.ensures.updates.0
-          ∙ ap (insert (from_entries files) n) c.new.ensures
+          ∙ ap (insert (from_entries files) n) c.new.ensures.file
           ∙ ap (λ (old : Files). insert old n (record { name = c.args.name; length = c.args.len; body = empty })) c.self.view_is;
     }
 
 pub invariant_of-self-2 : goal.invariant_of-self-2
-invariant_of-self-2 c = IsFileSet-Creates _ _ _ _ (subst IsFileSet c.self.view_is c.self.invariant) (made c)
+invariant_of-self-2 c = IsFileSet-Creates _ _ _ _ c.new.ensures.named c.requires.short (subst IsFileSet c.self.view_is c.self.invariant) (made c)
 
 pub returns-clause-ok : goal.returns-clause-ok
 returns-clause-ok c = made c

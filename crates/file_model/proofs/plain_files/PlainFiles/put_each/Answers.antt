@@ -10,7 +10,7 @@ pub loop-k-preserved : goal.loop-k-preserved
 loop-k-preserved c =
     let blocks = c.args.blocks.now in
     let k = c.loop-k.k in
-    let block = c.get.result.now in
+    let block = c.get.result in
     let within : k < length blocks = omega arith in
     let more = take_more blocks k block within ∙ ap (λ (b : Block). take k blocks ++ b ∷ []) (get_or_from_slice_get blocks k block block c.get.ensures) in
     let as_many = ap (λ (n : ℕ). c.args.v + n) (sym (length-take-le k blocks (omega arith))) in

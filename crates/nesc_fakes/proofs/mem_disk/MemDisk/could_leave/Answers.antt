@@ -1,9 +1,8 @@
 use Rattle.std.proofs.Common.{◌≡◌, [], Contains, length, inl, inr, refl, sym, ◌∙◌, arith}
 use Rattle.std.proofs.lemmas.Bool.{true≢false}
 use Rattle.nesc_fakes.specs.MemDisk.{contents_at, unsynced}
-use Rattle.nesc_fakes.specs.MemDiskLaws.{left_whole, length-contents_at}
 use Rattle.nesc_fakes.specs.contracts.mem_disk.MemDisk.{the_view}
-use Rattle.nesc_fakes.proofs.Leavable.{image_more, image_whole, same_block, other_block}
+use Rattle.nesc_fakes.proofs.Leavable.{left_whole, length-contents_at, image_more, image_whole, same_block, other_block}
 use Rattle.nesc_fakes.proofs.mem_disk.MemDisk.could_leave.Goals as goal
 use Rattle.nesc_fakes.proofs.mem_disk.MemDisk.could_leave.Goals.{then-self-k-via-then-self-k, then-self-k-via-else-self-k+then-image-len, else-ne-via-then-ne+else-not-is_unsynced, else-ne-via-else-ne}
 

@@ -1,6 +1,6 @@
-use Rattle.std.proofs.Common.{Some, length-set, refl, sym, ◌∙◌}
-use Rattle.nesc_base.specs.declared.host.HostCommand.TheVariants.{Create}
-use Rattle.nesc_base.specs.declared.host.HostAnswer.TheVariants.{Ok}
+use Rattle.std.proofs.Common.{refl, sym, ◌∙◌}
+use Rattle.nesc_requests.specs.declared.host.HostCommand.TheVariants.{Create}
+use Rattle.nesc_requests.specs.declared.host.HostAnswer.TheVariants.{Ok}
 use Rattle.nesc_session.proofs.Created.{at_some, at_none, IsFull-entries, Creates-set, filed-set}
 use Rattle.nesc_session.proofs.KeepsHeld.{KeepsHeld-FileStep}
 use Rattle.nesc_session.proofs.files.Files.create.Goals as goal
@@ -13,23 +13,22 @@ returns-then-is_some-clause-step c =
 pub returns-in_default-clause-step : goal.returns-in_default-clause-step
 returns-in_default-clause-step c = (
   at_none _ _ c.find.result c.find.ensures (sym c.if-is_some.ensures),
-  IsFull-entries c.self.inside.held.blocks c.self.inside.table c.self.view_is c.self.invariant.count (sym c.first_unused.ensures ∙ c.in_default.is),
+  IsFull-entries c.self.inside.held.blocks c.self.inside.table c.self.view_is c.first_unused.ensures.all (sym c.first_unused.ensures.index ∙ c.in_default.is),
   refl,
 )
 
 pub invariant_of-self : goal.invariant_of-self
 invariant_of-self c =
-    let first = sym c.first_unused.ensures ∙ c.in-Some.is in
+    let first = sym c.first_unused.ensures.index ∙ c.in-Some.is in
     rw c.set.ensures (record {
-      count = length-set c.self.inside.table c.in-Some.e (Some (record { name = c.args.name; length = c.args.length })) ∙ c.self.invariant.count;
       filed = filed-set c.self.inside.held.blocks c.self.inside.table c.self.view_is c.in-Some.e first c.self.invariant.filed (record { name = c.args.name; length = c.args.length });
     })
 
 pub returns-clause-step : goal.returns-clause-step
 returns-clause-step c =
-    let first = sym c.first_unused.ensures ∙ c.in-Some.is in
+    let first = sym c.first_unused.ensures.index ∙ c.in-Some.is in
     rw c.set.ensures
-    (Creates-set c.self.inside.held.blocks c.self.inside.table c.self.view_is c.in-Some.e first c.self.invariant.filed c.self.invariant.count (record { name = c.args.name; length = c.args.length }) (at_none _ _ c.find.result c.find.ensures (sym c.if-is_some.ensures)))
+    (Creates-set c.self.inside.held.blocks c.self.inside.table c.self.view_is c.in-Some.e first c.self.invariant.filed c.first_unused.ensures.all (record { name = c.args.name; length = c.args.length }) (at_none _ _ c.find.result c.find.ensures (sym c.if-is_some.ensures)))
 
 pub returns-clause-keeps : goal.returns-clause-keeps
 returns-clause-keeps c = KeepsHeld-FileStep _ _ (Create c.args.name c.args.length) Ok (returns-clause-step c)

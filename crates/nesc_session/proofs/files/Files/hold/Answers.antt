@@ -1,6 +1,6 @@
 use Rattle.std.proofs.Common.{◌≡◌, ◌+◌, ◌-◌, ◌<◌, ◌≤◌, Bool, true, false, cond, suc, length, refl, sym, ap, subst, ◌∙◌, arith}
 use Rattle.std.specs.Int.{from_bool}
-use Rattle.nesc_base.specs.declared.request.Kind.TheVariants.{Unmapped}
+use Rattle.nesc_requests.specs.declared.request.Kind.TheVariants.{Unmapped}
 use Rattle.nesc_base.specs.Files.{file_at}
 use Rattle.file_model.specs.Handlings.{HoldsAll}
 use Rattle.nesc_session.proofs.Holding.{length_then, holds_then, HoldsAll-more}

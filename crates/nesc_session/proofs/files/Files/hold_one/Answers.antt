@@ -16,7 +16,6 @@ pub invariant_of-self : goal.invariant_of-self
 invariant_of-self c =
     let stands = ap is_some (stands-length c.args.self.now.files c.args.file.0 c.args.v c.requires.below) in
     record {
-      count = c.self.invariant.count;
       filed = rw c.hold.ensures.blocks (filed-insert _ _ c.args.file.0 c.args.v c.zero.result c.self.invariant.filed (has_entry _ _ c.self.view_is c.args.file.0 stands));
     }
 

@@ -6,6 +6,5 @@ use Rattle.nesc_session.proofs.files.Files.new.Goals as goal
 
 pub invariant_of-result : goal.invariant_of-result
 invariant_of-result c = record {
-  count = c.requires;
   filed = λ p some. absurd (false≢true (sym (ap is_some (ap (λ m. get m p) c.in_ok-new.ensures.empty ∙ get-empty place_cmp p)) ∙ some));
 }

@@ -1,5 +1,5 @@
-use Rattle.nesc_base.specs.declared.host.HostCommand.TheVariants.{Put}
-use Rattle.nesc_base.specs.declared.host.HostAnswer.TheVariants.{Ok}
+use Rattle.nesc_requests.specs.declared.host.HostCommand.TheVariants.{Put}
+use Rattle.nesc_requests.specs.declared.host.HostAnswer.TheVariants.{Ok}
 use Rattle.nesc_session.proofs.KeepsHeld.{KeepsHeld-FileStep}
 use Rattle.nesc_session.proofs.Ranges.{refused_put}
 use Rattle.nesc_session.proofs.Puts.{PutsBlocks-Writes}

@@ -4,7 +4,6 @@ use Rattle.nesc_session.proofs.files.Files.write.Goals as goal
 
 pub invariant_of-self : goal.invariant_of-self
 invariant_of-self c = record {
-  count = c.self.invariant.count;
   filed = rw c.put.ensures.blocks (filed-insert _ _ c.args.file.0 c.args.v c.args.block.now c.self.invariant.filed (has_entry _ _ c.self.view_is c.args.file.0 c.requires.stands));
 }
 

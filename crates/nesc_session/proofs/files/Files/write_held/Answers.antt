@@ -17,7 +17,6 @@ returns-clause-held c = c.replace.ensures.held ∙ sym (holds-now _ _ c.self.vie
 
 pub invariant_of-self : goal.invariant_of-self
 invariant_of-self c = record {
-  count = c.self.invariant.count;
   filed = at c.replace.result refl;
 }
   where

@@ -1,5 +1,5 @@
 use Rattle.std.proofs.Common.{length, ap, length-set, arith}
-use Rattle.nesc_base.specs.declared.request.Kind.TheVariants.{Unmapped}
+use Rattle.nesc_requests.specs.declared.request.Kind.TheVariants.{Unmapped}
 use Rattle.nesc_base.specs.declared.block.Block.{Block}
 use Rattle.nesc_base.specs.Files.{file_at}
 use Rattle.nesc_session.proofs.Wanted.{wanted-range, length-wanted_le}

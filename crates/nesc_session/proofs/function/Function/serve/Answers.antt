@@ -1,6 +1,6 @@
 use Rattle.std.proofs.Common.{◌≡◌, ◌+◌, ◌-◌, ◌<◌, ◌∷◌, length, drop, None, Some, refl, sym, ap, ◌∙◌, arith, length-drop}
-use Rattle.nesc_base.specs.Requests.{blocks_of, first_of}
-use Rattle.nesc_base.specs.declared.request.Kind.TheVariants.{Unmapped}
+use Rattle.nesc_requests.specs.Requests.{blocks_of, first_of}
+use Rattle.nesc_requests.specs.declared.request.Kind.TheVariants.{Unmapped}
 use Rattle.file_model.specs.Functions.{Attached, Function}
 use Rattle.nesc_session.specs.Serving.{ReachesNext}
 use Rattle.nesc_session.proofs.Served.{ServesFunction-last, ServesFunction-missed, ServesFunction-more, ServesFunction-past, pushed, split_first}

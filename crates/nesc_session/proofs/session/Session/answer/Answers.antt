@@ -1,5 +1,5 @@
 use Rattle.std.proofs.Common.{refl, sym, ap, subst, arith}
-use Rattle.nesc_base.specs.declared.host.HostCommand.{HostCommand}
+use Rattle.nesc_requests.specs.declared.host.HostCommand.{HostCommand}
 use Rattle.file_model.specs.HostCommands.{HostStep}
 use Rattle.nesc_session.specs.Room.{room_for}
 use Rattle.nesc_session.specs.Session.{state_of}

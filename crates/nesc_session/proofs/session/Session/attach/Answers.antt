@@ -1,5 +1,5 @@
 use Rattle.std.proofs.Common.{◌<◌, Some, length, slice_set, refl, sym, ap, subst, ◌∙◌}
-use Rattle.nesc_base.specs.Script.{numbered}
+use Rattle.nesc_requests.specs.Script.{numbered}
 use Rattle.file_model.specs.Functions.{Function, fresh, is_taken}
 use Rattle.nesc_session.specs.Session.{state_of}
 use Rattle.nesc_session.proofs.Items.{is_off-item, is_off-none, numbered-item, with_numbered-at}

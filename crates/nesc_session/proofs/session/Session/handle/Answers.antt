@@ -1,7 +1,7 @@
 use Rattle.std.proofs.Common.{◌≡◌, ◌<◌, Some, length, slice_get, refl, sym, ap, subst, ◌∙◌, arith}
 use Rattle.std.proofs.lemmas.List.{length-set}
 use Rattle.std.proofs.lemmas.Option.{slice_get-get_or}
-use Rattle.nesc_base.specs.Script.{numbered}
+use Rattle.nesc_requests.specs.Script.{numbered}
 use Rattle.nesc_session.specs.Session.{state_of}
 use Rattle.nesc_session.proofs.Items.{waiting_of-none}
 use Rattle.nesc_session.proofs.RoomLemmas.{sum-changes, room-item}

@@ -1,7 +1,7 @@
 use Rattle.std.proofs.Common.{sym, subst}
 use Rattle.file_model.specs.Machine.{HostTurn}
 use Rattle.file_model.specs.declared.line.Line.TheVariants.{Host}
-use Rattle.nesc_base.specs.Script.{Script}
+use Rattle.nesc_requests.specs.Script.{Script}
 use Rattle.nesc_session.specs.Session.{state_of}
 use Rattle.nesc_session.proofs.session.Session.host_turn.Goals as goal
 

@@ -1,5 +1,5 @@
 use Rattle.std.proofs.Common.{sym, subst}
-use Rattle.nesc_base.specs.declared.word.Word.{Word}
+use Rattle.nesc_requests.specs.declared.word.Word.{Word}
 use Rattle.file_model.specs.Machine.{Step}
 use Rattle.nesc_session.specs.Outcome.{lines_of}
 use Rattle.nesc_session.specs.Session.{state_of}

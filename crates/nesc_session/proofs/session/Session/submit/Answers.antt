@@ -1,7 +1,7 @@
 use Rattle.std.proofs.Common.{◌≡◌, ◌<◌, false, nat_le, Some, IfSome, is_none, length, slice_get, refl, sym, ap, subst, ◌∙◌, arith}
 use Rattle.std.proofs.lemmas.List.{length-set}
 use Rattle.std.proofs.lemmas.Option.{slice_get-get_or}
-use Rattle.nesc_base.specs.Script.{numbered}
+use Rattle.nesc_requests.specs.Script.{numbered}
 use Rattle.file_model.specs.Functions.{Function}
 use Rattle.script_lang.specs.Limits.{most_queued}
 use Rattle.nesc_session.specs.Room.{room_for_script, room_to_write}

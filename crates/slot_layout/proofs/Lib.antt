@@ -1,0 +1,11 @@
+pub mod Alike
+pub mod ListBlocks
+pub mod ListsOf
+pub mod NumberBytes
+pub mod OneLaid
+pub mod OneList
+pub mod Padding
+pub mod Pieces
+pub mod SlotLemmas
+pub mod Spelled
+pub mod TargetsRead
