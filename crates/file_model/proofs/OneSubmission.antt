@@ -4,7 +4,7 @@ use Rattle.nesc_requests.specs.declared.request.Request.{Request}
 use Rattle.nesc_requests.specs.Script.{requests_of, with_numbered}
 use Rattle.file_model.specs.Functions.{Attached, Function, attached_of}
 use Rattle.file_model.specs.State.{State}
-use Rattle.file_model.specs.Submissions.{HasNext, IsFull, Queues, Submits, queueing}
+use Rattle.file_model.specs.Submissions.{HasNext, IsQueueFull, Queues, Submits, queueing}
 use Rattle.file_model.specs.declared.line.Submission.{Submission}
 use Rattle.file_model.specs.declared.line.Submission.TheVariants as submission
 use Rattle.file_model.proofs.Functions.{attached_from_function}
@@ -23,7 +23,7 @@ queue_of old f id new queues = attached_from_function old.functions f queues.fun
 off_and_on : (old : State) (f : ℕ) (attached : Attached) → attached_of old.functions f ≡ None → attached_of old.functions f ≡ Some attached → ⊥
 off_and_on old f attached off on = let same : None ≡ Some attached = sym off ∙ on in cc
 
-full_and_room : (old : State) (f id : ℕ) (new : State) → IsFull old f → Queues old f id new → ⊥
+full_and_room : (old : State) (f id : ℕ) (new : State) → IsQueueFull old f → Queues old f id new → ⊥
 full_and_room old f id new full queues =
     let same : full.attached ≡ queues.attached = cc (sym full.on ∙ queue_of old f id new queues) in
     let no_room = subst (λ (a : Attached). old.depth ≤ length a.queue) same full.full in

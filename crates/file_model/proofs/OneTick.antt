@@ -8,14 +8,14 @@ use Rattle.nesc_requests.specs.declared.request.Kind.TheVariants.{Unmapped}
 use Rattle.nesc_requests.specs.declared.request.Miss.{Miss}
 use Rattle.nesc_requests.specs.declared.request.Request.{Request}
 use Rattle.nesc_requests.specs.declared.request.Request.TheVariants.{Read, Write}
-use Rattle.nesc_requests.specs.Requests.{blocks_of, is_write}
+use Rattle.nesc_requests.specs.Requests.{block_count, is_write}
 use Rattle.nesc_requests.specs.Script.{with_numbered}
 use Rattle.nesc_base.specs.Files.{File, Files, file_at}
 use Rattle.file_model.specs.Files.{Puts, holds}
 use Rattle.file_model.specs.Functions.{Attached, next_runnable}
 use Rattle.file_model.specs.Misses.{MissLaw, ShowsPlace}
 use Rattle.file_model.specs.State.{State}
-use Rattle.file_model.specs.Ticks.{Turn, EndsPast, Misses, Reaches, Serves, ServesBlock, TakesTurn, Ticks, block_of, file_of, replies_of, served_of}
+use Rattle.file_model.specs.Ticks.{Turn, EndsPast, WaitsForBlock, Reaches, Serves, ServesBlock, TakesTurn, Ticks, next_block, file_of, replies_of, served_of}
 use Rattle.file_model.specs.declared.line.How.{How}
 use Rattle.file_model.specs.declared.line.How.TheVariants.{Walk, Hole, Range}
 use Rattle.file_model.specs.declared.line.Line.{Line}
@@ -25,7 +25,7 @@ use Rattle.file_model.proofs.Turns.{one_turn}
 
 -- whether the block that a turn comes to is held
 abbrev is_held : Files → Turn → Bool
-is_held old turn = holds (file_of old turn) (block_of turn)
+is_held old turn = holds (file_of old turn) (next_block turn)
 
 -- How a block is reached
 
@@ -38,21 +38,21 @@ abbrev how_of : Bool → How
 how_of true = Walk 0
 how_of false = Hole 0
 
-shown_walk : (old : Files) (turn : Turn) (request : Request) (fetched : ℕ) (replies : List Line) → is_held old turn ≡ true → ShowsPlace (is_held old turn) request (Served turn.f (block_of turn) (Walk fetched) ∷ replies)
+shown_walk : (old : Files) (turn : Turn) (request : Request) (fetched : ℕ) (replies : List Line) → is_held old turn ≡ true → ShowsPlace (is_held old turn) request (Served turn.f (next_block turn) (Walk fetched) ∷ replies)
     → Walk fetched ≡ how_of (is_held old turn)
 shown_walk old turn request fetched replies held shows =
-    let none : fetched ≡ 0 = subst (λ b. ShowsPlace b request (Served turn.f (block_of turn) (Walk fetched) ∷ replies)) held shows in
+    let none : fetched ≡ 0 = subst (λ b. ShowsPlace b request (Served turn.f (next_block turn) (Walk fetched) ∷ replies)) held shows in
     ap (λ (n : ℕ). Walk n) none ∙ ap how_of (sym held)
 
 shown_how : (old : Files) (turn : Turn) (request : Request) (how : How) (after : Request) (new : Files) (replies : List Line) → Reaches old turn request how after new
-    → ShowsPlace (is_held old turn) request (Served turn.f (block_of turn) how ∷ replies) → how ≡ how_of (is_held old turn)
+    → ShowsPlace (is_held old turn) request (Served turn.f (next_block turn) how ∷ replies) → how ≡ how_of (is_held old turn)
 shown_how old turn (Read v into) (Walk fetched) after new replies reaches shows = shown_walk old turn (Read v into) fetched replies reaches.0 shows
 shown_how old turn (Read v into) (Hole fetched) after new replies reaches shows =
-    let none : fetched ≡ 0 = subst (λ b. ShowsPlace b (Read v into) (Served turn.f (block_of turn) (Hole fetched) ∷ replies)) reaches.0 shows in
+    let none : fetched ≡ 0 = subst (λ b. ShowsPlace b (Read v into) (Served turn.f (next_block turn) (Hole fetched) ∷ replies)) reaches.0 shows in
     ap (λ (n : ℕ). Hole n) none ∙ ap how_of (sym reaches.0)
 shown_how old turn (Read v into) Range after new replies reaches shows = absurd reaches
 shown_how old turn (Write v from) (Walk fetched) after new replies reaches shows =
-    shown_walk old turn (Write v from) fetched replies (held_where_put old turn.attached.file (block_of turn) _ new reaches.1) shows
+    shown_walk old turn (Write v from) fetched replies (held_where_put old turn.attached.file (next_block turn) _ new reaches.1) shows
 shown_how old turn (Write v from) (Hole fetched) after new replies reaches shows = absurd reaches
 shown_how old turn (Write v from) Range after new replies reaches shows = absurd reaches
 
@@ -63,23 +63,23 @@ reaches_one old turn (Read v into) (Walk fetched) one other first second here th
 reaches_one old turn (Read v into) (Hole fetched) one other first second here there = (here.1 ∙ sym there.1, here.2 ∙ sym there.2)
 reaches_one old turn (Read v into) Range one other first second here there = absurd here
 reaches_one old turn (Write v from) (Walk fetched) one other first second here there =
-    (here.0 ∙ sym there.0, puts_one old turn.attached.file (block_of turn) _ first second here.1 there.1)
+    (here.0 ∙ sym there.0, puts_one old turn.attached.file (next_block turn) _ first second here.1 there.1)
 reaches_one old turn (Write v from) (Hole fetched) one other first second here there = absurd here
 reaches_one old turn (Write v from) Range one other first second here there = absurd here
 
 -- a write does not reach a block that is not held
 reached_and_missed : (old : Files) (turn : Turn) (request : Request) (how : How) (after : Request) (new : Files) → Reaches old turn request how after new → is_write request ≡ true → is_held old turn ≡ false → ⊥
 reached_and_missed old turn (Read v into) how after new reaches writes unheld = false≢true writes
-reached_and_missed old turn (Write v from) (Walk fetched) after new reaches writes unheld = both_ways (is_held old turn) unheld (held_where_put old turn.attached.file (block_of turn) _ new reaches.1)
+reached_and_missed old turn (Write v from) (Walk fetched) after new reaches writes unheld = both_ways (is_held old turn) unheld (held_where_put old turn.attached.file (next_block turn) _ new reaches.1)
 reached_and_missed old turn (Write v from) (Hole fetched) after new reaches writes unheld = reaches
 reached_and_missed old turn (Write v from) Range after new reaches writes unheld = reaches
 
 -- What a turn may come to
 
 pub data Outcome (old : Files) (turn : Turn) (lines : List Line) (after : Attached) (new : Files) : Type 0 where
-  past : (replies : List Line) → EndsPast old turn replies after new → lines ≡ Served turn.f (block_of turn) Range ∷ replies → Outcome old turn lines after new
-  served : (how : How) (replies : List Line) → ServesBlock old turn how replies after new → lines ≡ Served turn.f (block_of turn) how ∷ replies → Outcome old turn lines after new
-  missed : (miss : Miss) (fetched : ℕ) → Misses old turn miss after new → lines ≡ Missed turn.f miss fetched ∷ [] → Outcome old turn lines after new
+  past : (replies : List Line) → EndsPast old turn replies after new → lines ≡ Served turn.f (next_block turn) Range ∷ replies → Outcome old turn lines after new
+  served : (how : How) (replies : List Line) → ServesBlock old turn how replies after new → lines ≡ Served turn.f (next_block turn) how ∷ replies → Outcome old turn lines after new
+  missed : (miss : Miss) (fetched : ℕ) → WaitsForBlock old turn miss after new → lines ≡ Missed turn.f miss fetched ∷ [] → Outcome old turn lines after new
 
 pub outcome : (old : Files) (turn : Turn) (lines : List Line) (after : Attached) (new : Files) → Serves old turn lines after new → Outcome old turn lines after new
 outcome old turn (Served f v Range ∷ replies) after new serves = past replies serves.2 (ap (λ (g : FnNo). Served g v Range ∷ replies) serves.0 ∙ ap (λ (w : ℕ). Served turn.f w Range ∷ replies) serves.1)
@@ -92,7 +92,7 @@ outcome old turn lines after new serves = absurd serves
 
 -- the lines show what stands at the block, if it lies below the length
 abbrev Shows : Files → Turn → List Line → Type 0
-Shows old turn lines = block_of turn < (file_of old turn).length → ShowsPlace (is_held old turn) turn.head.request lines
+Shows old turn lines = next_block turn < (file_of old turn).length → ShowsPlace (is_held old turn) turn.head.request lines
 
 -- Two outcomes are one
 
@@ -100,11 +100,11 @@ Shows old turn lines = block_of turn < (file_of old turn).length → ShowsPlace 
 abbrev IsOne : List Line → List Line → Attached → Attached → Files → Files → Type 0
 IsOne one other a b first second = (one ≡ other) × (a ≡ b) × (first ≡ second)
 
-below_and_past : (old : Files) (turn : Turn) → block_of turn < (file_of old turn).length → (file_of old turn).length ≤ block_of turn → ⊥
+below_and_past : (old : Files) (turn : Turn) → next_block turn < (file_of old turn).length → (file_of old turn).length ≤ next_block turn → ⊥
 below_and_past old turn below beyond = omega arith
 
 how_shown : (old : Files) (turn : Turn) (how : How) (replies : List Line) (after : Attached) (new : Files) (lines : List Line) → ServesBlock old turn how replies after new
-    → lines ≡ Served turn.f (block_of turn) how ∷ replies → Shows old turn lines → how ≡ how_of (is_held old turn)
+    → lines ≡ Served turn.f (next_block turn) how ∷ replies → Shows old turn lines → how ≡ how_of (is_held old turn)
 how_shown old turn how replies after new lines serves e shows =
     shown_how old turn turn.head.request how serves.request new replies serves.reaches
     (subst (λ (lines : List Line). ShowsPlace (is_held old turn) turn.head.request lines) e (shows serves.below))
@@ -121,8 +121,8 @@ shown_missed : (request : Request) (held : Bool) (turn : Turn) (miss : Miss) (fe
 shown_missed (Read v into) held turn miss fetched writes unheld shows = absurd (false≢true writes)
 shown_missed (Write v from) held turn miss fetched writes unheld shows = subst (λ b. ShowsPlace b (Write v from) (Missed turn.f miss fetched ∷ [])) unheld shows
 
-missed_line : (old : Files) (turn : Turn) (lines : List Line) (miss : Miss) (fetched : ℕ) (after : Attached) (new : Files) → Misses old turn miss after new → lines ≡ Missed turn.f miss fetched ∷ [] → Shows old turn lines
-    → lines ≡ Missed turn.f (record { v = block_of turn; n = blocks_of turn.head.request - turn.attached.done; kind = Unmapped }) 0 ∷ []
+missed_line : (old : Files) (turn : Turn) (lines : List Line) (miss : Miss) (fetched : ℕ) (after : Attached) (new : Files) → WaitsForBlock old turn miss after new → lines ≡ Missed turn.f miss fetched ∷ [] → Shows old turn lines
+    → lines ≡ Missed turn.f (record { v = next_block turn; n = block_count turn.head.request - turn.attached.done; kind = Unmapped }) 0 ∷ []
 missed_line old turn lines miss fetched after new misses e shows =
     let none = shown_missed turn.head.request (is_held old turn) turn miss fetched misses.writes misses.unheld
     (subst (λ (lines : List Line). ShowsPlace (is_held old turn) turn.head.request lines) e (shows misses.below)) in
@@ -131,14 +131,14 @@ missed_line old turn lines miss fetched after new misses e shows =
 outcome_one : (old : Files) (turn : Turn) (one other : List Line) (a b : Attached) (first second : Files) → Shows old turn one → Shows old turn other
     → Outcome old turn one a first → Outcome old turn other b second → IsOne one other a b first second
 outcome_one old turn one other a b first second shows shows' (past r ends e) (past s ends' e') =
-    (e ∙ ap (λ (replies : List Line). Served turn.f (block_of turn) Range ∷ replies) (ends.reply ∙ sym ends'.reply) ∙ sym e', ends.result ∙ sym ends'.result, ends.same ∙ sym ends'.same)
+    (e ∙ ap (λ (replies : List Line). Served turn.f (next_block turn) Range ∷ replies) (ends.reply ∙ sym ends'.reply) ∙ sym e', ends.result ∙ sym ends'.result, ends.same ∙ sym ends'.same)
 outcome_one old turn one other a b first second shows shows' (past r ends e) (served k s serves e') = absurd (below_and_past old turn serves.below ends.past)
 outcome_one old turn one other a b first second shows shows' (past r ends e) (missed miss fetched misses e') = absurd (below_and_past old turn misses.below ends.past)
 outcome_one old turn one other a b first second shows shows' (served h r serves e) (past s ends e') = absurd (below_and_past old turn serves.below ends.past)
 outcome_one old turn one other a b first second shows shows' (served h r serves e) (served k s serves' e') =
     let how = how_shown old turn h r a first one serves e shows ∙ sym (how_shown old turn k s b second other serves' e' shows') in
     let same = served_one old turn h k r s a b first second serves serves' how in
-    (e ∙ ap (λ (h : How). Served turn.f (block_of turn) h ∷ r) how ∙ ap (λ (replies : List Line). Served turn.f (block_of turn) k ∷ replies) same.0 ∙ sym e', same.1, same.2)
+    (e ∙ ap (λ (h : How). Served turn.f (next_block turn) h ∷ r) how ∙ ap (λ (replies : List Line). Served turn.f (next_block turn) k ∷ replies) same.0 ∙ sym e', same.1, same.2)
 outcome_one old turn one other a b first second shows shows' (served h r serves e) (missed miss fetched misses e') =
     absurd (reached_and_missed old turn turn.head.request h serves.request first serves.reaches misses.writes misses.unheld)
 outcome_one old turn one other a b first second shows shows' (missed miss fetched misses e) (past s ends e') = absurd (below_and_past old turn misses.below ends.past)

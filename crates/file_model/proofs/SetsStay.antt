@@ -20,7 +20,7 @@ use Rattle.std.specs.List.{AllByRecursion}
 use Rattle.file_model.specs.Machine.{HostTurn, with_host}
 use Rattle.file_model.specs.State.{State}
 use Rattle.file_model.specs.Submissions.{Submits}
-use Rattle.file_model.specs.Ticks.{Turn, Reaches, block_of}
+use Rattle.file_model.specs.Ticks.{Turn, Reaches, next_block}
 use Rattle.file_model.specs.declared.line.Handled.{Handled}
 use Rattle.file_model.specs.declared.line.Handled.TheVariants as handled
 use Rattle.file_model.specs.declared.line.How.{How}
@@ -111,7 +111,7 @@ handling_stays old f (handled.Held count) new set handles =
 reaches_stays : (old : Files) (turn : Turn) (request : Request) (how : How) (after : Request) (new : Files) → IsFileSet old → Reaches old turn request how after new → IsFileSet new
 reaches_stays old turn (Read v into) (Walk fetched) after new set reaches = unchanged old new set reaches.2
 reaches_stays old turn (Read v into) (Hole fetched) after new set reaches = unchanged old new set reaches.2
-reaches_stays old turn (Write v from) (Walk fetched) after new set reaches = IsFileSet-Puts old turn.attached.file (block_of turn) _ new set reaches.1
+reaches_stays old turn (Write v from) (Walk fetched) after new set reaches = IsFileSet-Puts old turn.attached.file (next_block turn) _ new set reaches.1
 reaches_stays old turn request how after new set reaches = absurd reaches
 
 serves_stays : (old : Files) (turn : Turn) (lines : List Line) (after : Attached) (new : Files) → IsFileSet old → Outcome old turn lines after new → IsFileSet new

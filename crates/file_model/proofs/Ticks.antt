@@ -9,14 +9,14 @@ use Rattle.nesc_requests.specs.declared.request.Kind.TheVariants.{Unmapped}
 use Rattle.nesc_requests.specs.declared.request.Miss.{Miss}
 use Rattle.nesc_requests.specs.declared.request.Request.{Request}
 use Rattle.nesc_requests.specs.declared.request.Request.TheVariants.{Read, Write}
-use Rattle.nesc_requests.specs.Requests.{blocks_of}
+use Rattle.nesc_requests.specs.Requests.{block_count}
 use Rattle.nesc_requests.specs.Script.{with_numbered}
 use Rattle.nesc_base.specs.Files.{File, Files}
 use Rattle.file_model.specs.Files.{Puts, holds, read}
 use Rattle.file_model.specs.Functions.{Attached, next_runnable}
 use Rattle.file_model.specs.Misses.{MissLaw, ShowsPlace}
 use Rattle.file_model.specs.State.{State}
-use Rattle.file_model.specs.Ticks.{Turn, IsTurn, Serves, TakesTurn, Ticks, block_of, file_of, ended, replies_of, reply_of, served_of}
+use Rattle.file_model.specs.Ticks.{Turn, IsTurn, Serves, TakesTurn, Ticks, next_block, file_of, ended, replies_of, reply_of, served_of}
 use Rattle.file_model.specs.declared.line.How.TheVariants.{Walk, Hole, Range}
 use Rattle.file_model.specs.declared.line.Line.{Line}
 use Rattle.file_model.specs.declared.line.Line.TheVariants.{Idle, Served, Missed, Replied}
@@ -32,18 +32,18 @@ Puts-at old n v block (Some file) stands held = (insert old n (record file { bod
 abbrev IsServed : Files → Turn → Type 0
 IsServed old turn =
     (lines : List Line) × (after : Attached) × (new : Files) × Serves old turn lines after new
-    × (block_of turn < (file_of old turn).length → ShowsPlace (holds (file_of old turn) (block_of turn)) turn.head.request lines)
+    × (next_block turn < (file_of old turn).length → ShowsPlace (holds (file_of old turn) (next_block turn)) turn.head.request lines)
 
 -- the turn of a function with this first request
 abbrev turn_with : Turn → Request → Turn
 turn_with turn request = record turn { head = record turn.head { request = request } }
 
 -- at a block that is held
-served_held : (old : Files) (turn : Turn) (request : Request) → block_of (turn_with turn request) < (file_of old turn).length → holds (file_of old turn) (block_of (turn_with turn request)) ≡ true → IsServed old (turn_with turn request)
+served_held : (old : Files) (turn : Turn) (request : Request) → next_block (turn_with turn request) < (file_of old turn).length → holds (file_of old turn) (next_block (turn_with turn request)) ≡ true → IsServed old (turn_with turn request)
 served_held old turn (Read v into) below held =
     let taken = turn_with turn (Read v into) in
-    let request = Read v (slice_set into turn.attached.done (read (file_of old taken) (block_of taken))) in
-    let lines = Served turn.f (block_of taken) (Walk 0) ∷ replies_of taken request in (
+    let request = Read v (slice_set into turn.attached.done (read (file_of old taken) (next_block taken))) in
+    let lines = Served turn.f (next_block taken) (Walk 0) ∷ replies_of taken request in (
       lines,
       served_of taken request,
       old,
@@ -54,8 +54,8 @@ served_held old turn (Write v from) below held =
     let taken = turn_with turn (Write v from) in
     let request = Write v from in
     let block = slice_index_or from turn.attached.done zero_block in
-    let puts = Puts-at old turn.attached.file (block_of taken) block (get old turn.attached.file) refl held in
-    let lines = Served turn.f (block_of taken) (Walk 0) ∷ replies_of taken request in (
+    let puts = Puts-at old turn.attached.file (next_block taken) block (get old turn.attached.file) refl held in
+    let lines = Served turn.f (next_block taken) (Walk 0) ∷ replies_of taken request in (
       lines,
       served_of taken request,
       puts.0,
@@ -64,11 +64,11 @@ served_held old turn (Write v from) below held =
     )
 
 -- at a block that is not held
-served_unheld : (old : Files) (turn : Turn) (request : Request) → block_of (turn_with turn request) < (file_of old turn).length → holds (file_of old turn) (block_of (turn_with turn request)) ≡ false → IsServed old (turn_with turn request)
+served_unheld : (old : Files) (turn : Turn) (request : Request) → next_block (turn_with turn request) < (file_of old turn).length → holds (file_of old turn) (next_block (turn_with turn request)) ≡ false → IsServed old (turn_with turn request)
 served_unheld old turn (Read v into) below unheld =
     let taken = turn_with turn (Read v into) in
     let request = Read v (slice_set into turn.attached.done zero_block) in
-    let lines = Served turn.f (block_of taken) (Hole 0) ∷ replies_of taken request in (
+    let lines = Served turn.f (next_block taken) (Hole 0) ∷ replies_of taken request in (
       lines,
       served_of taken request,
       old,
@@ -77,7 +77,7 @@ served_unheld old turn (Read v into) below unheld =
     )
 served_unheld old turn (Write v from) below unheld =
     let taken = turn_with turn (Write v from) in
-    let miss : Miss = record { v = block_of taken; n = blocks_of (Write v from) - turn.attached.done; kind = Unmapped } in
+    let miss : Miss = record { v = next_block taken; n = block_count (Write v from) - turn.attached.done; kind = Unmapped } in
     let lines = Missed turn.f miss 0 ∷ [] in (
       lines,
       record turn.attached { waiting = Some miss },
@@ -88,13 +88,13 @@ served_unheld old turn (Write v from) below unheld =
 
 served : (old : Files) (turn : Turn) → IsServed old turn
 served old turn =
-    elim (cases_lt (block_of turn) (file_of old turn).length) [
-      | inl below ↦ elim (cases_Bool (holds (file_of old turn) (block_of turn))) [
+    elim (cases_lt (next_block turn) (file_of old turn).length) [
+      | inl below ↦ elim (cases_Bool (holds (file_of old turn) (next_block turn))) [
         | inl held ↦ served_held old turn turn.head.request below held
         | inr unheld ↦ served_unheld old turn turn.head.request below unheld
       ]
       | inr past ↦ (
-        Served turn.f (block_of turn) Range ∷ Replied (reply_of turn end.Range turn.attached.done turn.head.request) ∷ [],
+        Served turn.f (next_block turn) Range ∷ Replied (reply_of turn end.Range turn.attached.done turn.head.request) ∷ [],
         ended turn,
         old,
         (refl, refl, record { past = past; reply = refl; result = refl; same = refl }),
@@ -109,9 +109,9 @@ Ticks-from old lines new takes = takes
 
 -- the law speaks of the one turn that there is
 MissLaw-from : (old : State) (turn : Turn) (lines : List Line) → IsTurn old turn
-    → (block_of turn < (file_of old.now turn).length → ShowsPlace (holds (file_of old.now turn) (block_of turn)) turn.head.request lines) → MissLaw old lines
+    → (next_block turn < (file_of old.now turn).length → ShowsPlace (holds (file_of old.now turn) (next_block turn)) turn.head.request lines) → MissLaw old lines
 MissLaw-from old turn lines is shows other is_other = subst
-    (λ (t : Turn). block_of t < (file_of old.now t).length → ShowsPlace (holds (file_of old.now t) (block_of t)) t.head.request lines)
+    (λ (t : Turn). next_block t < (file_of old.now t).length → ShowsPlace (holds (file_of old.now t) (next_block t)) t.head.request lines)
     (one_turn old turn other is is_other) shows
 
 ticked_of : (old : State) (found : Option ℕ) → next_runnable old.functions old.last ≡ found → (lines : List Line) × (new : State) × (Ticks old lines new × MissLaw old lines)

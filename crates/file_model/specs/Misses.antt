@@ -4,7 +4,7 @@ use Rattle.nesc_requests.specs.declared.request.Request.{Request}
 use Rattle.nesc_requests.specs.declared.request.Request.TheVariants.{Read, Write}
 use Rattle.file_model.specs.Files.{holds}
 use Rattle.file_model.specs.State.{State}
-use Rattle.file_model.specs.Ticks.{Turn, IsTurn, block_of, file_of}
+use Rattle.file_model.specs.Ticks.{Turn, IsTurn, next_block, file_of}
 use Rattle.file_model.specs.declared.line.How.TheVariants.{Walk, Hole}
 use Rattle.file_model.specs.declared.line.Line.{Line}
 use Rattle.file_model.specs.declared.line.Line.TheVariants.{Served, Missed}
@@ -20,5 +20,5 @@ ShowsPlace held request lines = ⊥
 -- so it is for each function that a tick takes at a block below the length
 abbrev pub MissLaw : State → List Line → Type 0
 MissLaw old lines =
-    (turn : Turn) → IsTurn old turn → block_of turn < (file_of old.now turn).length
-    → ShowsPlace (holds (file_of old.now turn) (block_of turn)) turn.head.request lines
+    (turn : Turn) → IsTurn old turn → next_block turn < (file_of old.now turn).length
+    → ShowsPlace (holds (file_of old.now turn) (next_block turn)) turn.head.request lines

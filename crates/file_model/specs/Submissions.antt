@@ -32,7 +32,7 @@ pub record Queues (old : State) (f id : ℕ) (new : State) : Type 0 where
   }
 
 -- the guest keeps its request, as the function has as many as may wait for one
-pub record IsFull (old : State) (f : ℕ) : Type 0 where
+pub record IsQueueFull (old : State) (f : ℕ) : Type 0 where
   pub attached : Attached
   pub on : attached_of old.functions f ≡ Some attached
   pub full : old.depth ≤ length attached.queue
@@ -45,5 +45,5 @@ HasNext old f = (request : Request) × (left : List Request) × (requests_of old
 abbrev pub Submits : State → ℕ → Submission → State → Type 0
 Submits old f submission.End new = (requests_of old.script f ≡ []) × (new ≡ old)
 Submits old f submission.Off new = HasNext old f × (attached_of old.functions f ≡ None) × (new ≡ old)
-Submits old f submission.Full new = HasNext old f × IsFull old f × (new ≡ old)
+Submits old f submission.Full new = HasNext old f × IsQueueFull old f × (new ≡ old)
 Submits old f (submission.Queued id) new = Queues old f id new

@@ -12,7 +12,7 @@ use Rattle.nesc_requests.specs.declared.request.Request.{Request}
 use Rattle.nesc_requests.specs.declared.request.Request.TheVariants.{Read, Write}
 use Rattle.nesc_base.specs.Files.{File, Files, file_at}
 use Rattle.file_model.specs.Files.{Changes, holds, put, read}
-use Rattle.nesc_requests.specs.Requests.{first_of, blocks_of, is_write}
+use Rattle.nesc_requests.specs.Requests.{first_of, block_count, is_write}
 use Rattle.nesc_requests.specs.Script.{numbered, with_numbered}
 use Rattle.file_model.specs.Functions.{Attached, Function, next_runnable}
 use Rattle.file_model.specs.State.{State}
@@ -38,8 +38,8 @@ pub record IsTurn (old : State) (turn : Turn) : Type 0 where
   pub queue : turn.attached.queue ≡ turn.head ∷ turn.rest
 
 -- the block that it comes to, and the file that it has
-abbrev pub block_of : Turn → ℕ
-block_of turn = first_of turn.head.request + turn.attached.done
+abbrev pub next_block : Turn → ℕ
+next_block turn = first_of turn.head.request + turn.attached.done
 
 abbrev pub file_of : Files → Turn → File
 file_of files turn = file_at files turn.attached.file
@@ -55,7 +55,7 @@ ended turn = record turn.attached { queue = turn.rest; done = 0 }
 
 -- a block of the request was served, and it was the last
 abbrev pub is_last : Turn → Bool
-is_last turn = nat_le (blocks_of turn.head.request) (turn.attached.done + 1)
+is_last turn = nat_le (block_count turn.head.request) (turn.attached.done + 1)
 
 -- the request with one more block done, or ended after its last
 abbrev pub served_of : Turn → Request → Attached
@@ -75,21 +75,21 @@ replies_of turn request =
 -- held; a write goes to a block that is held.
 abbrev pub Reaches : Files → Turn → Request → How → Request → Files → Type 0
 Reaches old turn (Read v into) (Walk fetched) request new =
-    (holds (file_of old turn) (block_of turn) ≡ true)
-    × (request ≡ Read v (slice_set into turn.attached.done (read (file_of old turn) (block_of turn))))
+    (holds (file_of old turn) (next_block turn) ≡ true)
+    × (request ≡ Read v (slice_set into turn.attached.done (read (file_of old turn) (next_block turn))))
     × (new ≡ old)
 Reaches old turn (Read v into) (Hole fetched) request new =
-    (holds (file_of old turn) (block_of turn) ≡ false)
+    (holds (file_of old turn) (next_block turn) ≡ false)
     × (request ≡ Read v (slice_set into turn.attached.done zero_block))
     × (new ≡ old)
 Reaches old turn (Write v from) (Walk fetched) request new =
     (request ≡ Write v from)
-    × Changes old (put turn.attached.file (block_of turn) (slice_index_or from turn.attached.done zero_block)) new
+    × Changes old (put turn.attached.file (next_block turn) (slice_index_or from turn.attached.done zero_block)) new
 Reaches old turn request how after new = ⊥
 
 -- a block below the length is served, and with the last one the request ends
 pub record ServesBlock (old : Files) (turn : Turn) (how : How) (replies : List Line) (after : Attached) (new : Files) : Type 0 where
-  pub below : block_of turn < (file_of old turn).length
+  pub below : next_block turn < (file_of old turn).length
   pub request : Request
   pub reaches : Reaches old turn turn.head.request how request new
   pub reply : replies ≡ replies_of turn request
@@ -97,27 +97,27 @@ pub record ServesBlock (old : Files) (turn : Turn) (how : How) (replies : List L
 
 -- at or past the length the request ends
 pub record EndsPast (old : Files) (turn : Turn) (replies : List Line) (after : Attached) (new : Files) : Type 0 where
-  pub past : (file_of old turn).length ≤ block_of turn
+  pub past : (file_of old turn).length ≤ next_block turn
   pub reply : replies ≡ Replied (reply_of turn end.Range turn.attached.done turn.head.request) ∷ []
   pub result : after ≡ ended turn
   pub same : new ≡ old
 
 -- a write comes to a block below the length that is not held, and the function waits
-pub record Misses (old : Files) (turn : Turn) (miss : Miss) (after : Attached) (new : Files) : Type 0 where
-  pub below : block_of turn < (file_of old turn).length
+pub record WaitsForBlock (old : Files) (turn : Turn) (miss : Miss) (after : Attached) (new : Files) : Type 0 where
+  pub below : next_block turn < (file_of old turn).length
   pub writes : is_write turn.head.request ≡ true
-  pub unheld : holds (file_of old turn) (block_of turn) ≡ false
-  pub is : miss ≡ record { v = block_of turn; n = blocks_of turn.head.request - turn.attached.done; kind = Unmapped }
+  pub unheld : holds (file_of old turn) (next_block turn) ≡ false
+  pub is : miss ≡ record { v = next_block turn; n = block_count turn.head.request - turn.attached.done; kind = Unmapped }
   pub result : after ≡ record turn.attached { waiting = Some miss }
   pub same : new ≡ old
 
 -- what the turn does to the files, and to what the function has
 abbrev pub Serves : Files → Turn → List Line → Attached → Files → Type 0
 Serves old turn (Served f v Range ∷ replies) after new =
-    (f ≡ turn.f) × (v ≡ block_of turn) × EndsPast old turn replies after new
+    (f ≡ turn.f) × (v ≡ next_block turn) × EndsPast old turn replies after new
 Serves old turn (Served f v how ∷ replies) after new =
-    (f ≡ turn.f) × (v ≡ block_of turn) × ServesBlock old turn how replies after new
-Serves old turn (Missed f miss fetched ∷ []) after new = (f ≡ turn.f) × Misses old turn miss after new
+    (f ≡ turn.f) × (v ≡ next_block turn) × ServesBlock old turn how replies after new
+Serves old turn (Missed f miss fetched ∷ []) after new = (f ≡ turn.f) × WaitsForBlock old turn miss after new
 Serves old turn lines after new = ⊥
 
 -- the function was taken, and has this now

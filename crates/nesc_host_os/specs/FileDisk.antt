@@ -34,8 +34,8 @@ known_of disk = record {
 }
 
 -- how many blocks there are in so many bytes
-abbrev pub blocks_in : ℕ → ℕ
-blocks_in len = min (len / 1024) 4294967295
+abbrev pub whole_blocks_in : ℕ → ℕ
+whole_blocks_in len = min (len / 1024) 4294967295
 
 -- the folder in which the file of a path stands: its parent, or `.` where that is empty
 abbrev pub folder_of : List ℕ → List ℕ

@@ -5,7 +5,7 @@ ghost use Rattle.std.specs.IoError.{error_kind};
 ghost use Rattle.nesc_base.specs.Block.{zero_block};
 ghost use Rattle.nesc_base.specs.Disk.{Goes, IsSettled, Unchanged, WritesAt, here, nowhere};
 ghost use Rattle.nesc_base.specs.Fault.{HasCause, Rose};
-ghost use Rattle.nesc_host_os.specs.FileDisk.{blocks_in, folder_of, known_of};
+ghost use Rattle.nesc_host_os.specs.FileDisk.{whole_blocks_in, folder_of, known_of};
 
 use nesc_base::{BLOCK_BYTES, Block, Disk, DiskFault};
 use std::fs::{self, Metadata, OpenFile, OpenOptions};
@@ -52,7 +52,7 @@ impl<'a, R: Files> Model for FileDisk<'a, R> {
 /// How many blocks of 1024 bytes a disk has, and whether it is blank.
 fn extent_of(found: &io::Result<Metadata>) -> (u32, bool)
     ensures file { IfOk found.now (λ m. IsFile (file_type m) → 0 < metadata_len m →
-        result ≡ (blocks_in (metadata_len m), false)) }
+        result ≡ (whole_blocks_in (metadata_len m), false)) }
     ensures empty { IfOk found.now (λ m. IsFile (file_type m) → metadata_len m ≡ 0 → result ≡ (4194304, true)) }
     ensures no_file { IfOk found.now (λ m. ¬ IsFile (file_type m) → result ≡ (0, false)) }
     ensures absent { IfErr found.now (λ e. error_kind e ≡ ErrorKind.NotFound → result ≡ (4194304, true)) }
@@ -68,7 +68,7 @@ fn extent_of(found: &io::Result<Metadata>) -> (u32, bool)
 
 /// How many whole blocks there are in so many bytes, up to 2^32 - 1.
 fn whole_blocks(len: u64) -> u32
-    ensures { result ≡ blocks_in len }
+    ensures { result ≡ whole_blocks_in len }
 {
     u32::try_from(len / 1024).unwrap_or(u32::MAX)
 }

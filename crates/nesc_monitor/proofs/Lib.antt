@@ -1,6 +1,7 @@
-pub mod EndingLemmas
+pub mod PromisesLemmas
 pub mod ReadingLemmas
 pub mod RunLemmas
+pub mod RunningLemmas
 pub mod StepsLemmas
 pub mod TellLemmas
 pub mod TextLemmas

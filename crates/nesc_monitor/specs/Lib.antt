@@ -1,7 +1,10 @@
+pub mod Call
 pub mod Endings
 pub mod Making
 pub mod Pieces
+pub mod Promises
 pub mod Reading
+pub mod Running
 pub mod Starting
 pub mod Steps
 pub mod Texts

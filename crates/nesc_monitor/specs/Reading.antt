@@ -7,6 +7,16 @@ abbrev pub GivesAll : List ℕ → Option (List ℕ) → Option (List ℕ) → T
 GivesAll text None new = Unit {0}
 GivesAll text (Some bytes) new = (text ≡ bytes) × (new ≡ Some [])
 
+-- the source tells what it has left
+abbrev pub Tells : Option (List ℕ) → Type 0
+Tells None = ⊥
+Tells (Some bytes) = Unit {0}
+
+-- where the source tells what it has left: that was no more than a text may have, and nothing is left
+abbrev pub GivesWhole : Option (List ℕ) → Option (List ℕ) → Type 0
+GivesWhole None new = Unit {0}
+GivesWhole (Some bytes) new = (length bytes ≤ most_bytes) × (new ≡ Some [])
+
 -- where the source tells what it has left: that was more than a text may have
 abbrev pub GivesTooMany : Option (List ℕ) → Type 0
 GivesTooMany None = Unit {0}

@@ -25,10 +25,6 @@ ending_of (Image fault) = ending.Image fault
 pub record StartsFrom (image : Known) (files : Files) : Type 0 where
   pub opens : image.tells ≡ true → OpensAsItIs image.contents files
 
--- the image was opened
-abbrev pub IsOpened : Known → Type 0
-IsOpened image = (files : Files) × StartsFrom image files
-
 -- The image was opened and all steps were taken and told, or the last line of them was cut short, or why no step was
 -- taken.
 abbrev pub StartsAndTells : Ending → Known → Known → Script → List Word → Watched → Type 0

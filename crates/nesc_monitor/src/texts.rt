@@ -1,11 +1,10 @@
 ghost use Rattle.std.specs.Prelude.{◌≡◌, ◌≤◌, Some, length, IfErr, IfOk, OnOk};
 ghost use Rattle.script_lang.specs.CommandsText.{IsCommandsText, blocks_in_all};
-ghost use Rattle.nesc_monitor.specs.Endings.{IsReadOut, IsTakenFromFront, IsTurnedAway};
-ghost use Rattle.nesc_monitor.specs.Watched.{watch};
 ghost use Rattle.script_lang.specs.Limits.{most_blocks};
-ghost use Rattle.nesc_monitor.specs.Reading.{GivesAll};
 ghost use Rattle.script_lang.specs.ScheduleText.{schedule_of};
-ghost use Rattle.nesc_monitor.specs.Texts.{IsRefusal, IsTold};
+ghost use Rattle.nesc_monitor.specs.Reading.{GivesAll};
+ghost use Rattle.nesc_monitor.specs.Texts.{IsReadWhole, IsRefusal, AreRefusedFor, IsTakenFromFront, SaysScript, SaysWords};
+ghost use Rattle.nesc_monitor.specs.Watched.{watch};
 
 use crate::ending::Ending;
 use crate::reading::{ReadStop, read_text};
@@ -20,9 +19,9 @@ struct Texts {
     schedule: Vec<u8>,
 }
 
-/// What the two texts say.
+/// What the two texts say, once both are accepted.
 #[derive(Drop)]
-pub struct Script {
+pub struct Accepted {
     pub commands: Commands,
     pub schedule: Schedule,
 }
@@ -32,7 +31,7 @@ fn read_texts<S: Source>(alloc: Global, commands: &mut S, schedule: &mut S) -> R
     ensures commands { IfOk result (λ texts. GivesAll texts.commands.items (S.left commands.old) (S.left commands.new)) }
     ensures schedule { IfOk result (λ texts. GivesAll texts.schedule.items (S.left schedule.old) (S.left schedule.new)) }
     ensures within { IfOk result (λ texts. (length texts.commands.items ≤ 16777216) × (length texts.schedule.items ≤ 16777216)) }
-    ensures turned_away { IfErr result (λ ending. IsTurnedAway ending
+    ensures refused { IfErr result (λ ending. AreRefusedFor ending
         (watch S.left S.faults commands.old commands.new)
         (watch S.left S.faults schedule.old schedule.new)) }
     ensures taken { IsTakenFromFront (watch S.left S.faults commands.old commands.new) × IsTakenFromFront (watch S.left S.faults schedule.old schedule.new) }
@@ -54,10 +53,10 @@ fn read_texts<S: Source>(alloc: Global, commands: &mut S, schedule: &mut S) -> R
 }
 
 /// What the texts say. The commands are judged first.
-fn judge(alloc: Global, texts: &Texts) -> Result<Script, Ending>
-    ensures commands { IfOk result (λ script. IsCommandsText texts.now.commands.items script.commands) }
-    ensures schedule { IfOk result (λ script. schedule_of texts.now.schedule.items ≡ Some script.schedule) }
-    ensures few { IfOk result (λ script. blocks_in_all script.commands ≤ most_blocks) }
+fn judge(alloc: Global, texts: &Texts) -> Result<Accepted, Ending>
+    ensures commands { IfOk result (λ accepted. IsCommandsText texts.now.commands.items accepted.commands) }
+    ensures schedule { IfOk result (λ accepted. schedule_of texts.now.schedule.items ≡ Some accepted.schedule) }
+    ensures few { IfOk result (λ accepted. blocks_in_all accepted.commands ≤ most_blocks) }
     ensures refusal { IfErr result (λ ending. IsRefusal ending texts.now.commands.items texts.now.schedule.items) }
 {
     let commands = match read_commands(alloc, &texts.commands) {
@@ -70,7 +69,7 @@ fn judge(alloc: Global, texts: &Texts) -> Result<Script, Ending>
         Err(InputFault::NoMemory) => return Err(Ending::Memory),
         Err(InputFault::Refused) => return Err(Ending::Schedule),
     };
-    Ok(Script { commands, schedule })
+    Ok(Accepted { commands, schedule })
 }
 
 /// Reads the two texts and judges them.
@@ -78,11 +77,12 @@ pub fn read_script<S: Source>(
     alloc: Global,
     commands: &mut S,
     schedule: &mut S,
-) -> Result<Script, Ending>
-    ensures told { IfOk result (λ script. IsTold (S.left commands.old) (S.left schedule.old) script.commands script.schedule) }
-    ensures read_out { OnOk result (IsReadOut (S.left commands.old) (S.left commands.new) × IsReadOut (S.left schedule.old) (S.left schedule.new)) }
-    ensures few { IfOk result (λ script. blocks_in_all script.commands ≤ most_blocks) }
-    ensures turned_away { IfErr result (λ ending. IsTurnedAway ending
+) -> Result<Accepted, Ending>
+    ensures commands { IfOk result (λ accepted. SaysScript (S.left commands.old) accepted.commands) }
+    ensures schedule { IfOk result (λ accepted. SaysWords (S.left schedule.old) accepted.schedule) }
+    ensures read { OnOk result (IsReadWhole (watch S.left S.faults commands.old commands.new) × IsReadWhole (watch S.left S.faults schedule.old schedule.new)) }
+    ensures few { IfOk result (λ accepted. blocks_in_all accepted.commands ≤ most_blocks) }
+    ensures refused { IfErr result (λ ending. AreRefusedFor ending
         (watch S.left S.faults commands.old commands.new)
         (watch S.left S.faults schedule.old schedule.new)) }
     ensures taken { IsTakenFromFront (watch S.left S.faults commands.old commands.new) × IsTakenFromFront (watch S.left S.faults schedule.old schedule.new) }

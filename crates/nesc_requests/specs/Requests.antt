@@ -8,14 +8,14 @@ abbrev pub first_of : Request → ℕ
 first_of (Read v into) = v
 first_of (Write v from) = v
 
-abbrev pub blocks_of : Request → ℕ
-blocks_of (Read v into) = length into
-blocks_of (Write v from) = length from
+abbrev pub block_count : Request → ℕ
+block_count (Read v into) = length into
+block_count (Write v from) = length from
 
 abbrev pub is_write : Request → Bool
 is_write (Read v into) = false
 is_write (Write v from) = true
 
 -- the numbers of its blocks fit their type
-abbrev pub Fits : Request → Type 0
-Fits request = first_of request + blocks_of request < 2 ^ 32
+abbrev pub IsNumbered : Request → Type 0
+IsNumbered request = first_of request + block_count request < 2 ^ 32

@@ -1,5 +1,5 @@
 ghost use Rattle.std.specs.Prelude.{◌≡◌, ◌≤◌};
-ghost use Rattle.nesc_requests.specs.Requests.{blocks_of, first_of};
+ghost use Rattle.nesc_requests.specs.Requests.{block_count, first_of};
 
 use nesc_base::{Blocks, FnNo};
 
@@ -25,7 +25,7 @@ impl Request {
 
     /// How many blocks it asks for, 1 to 64.
     pub fn blocks(&self) -> u32
-        ensures count { result ≡ blocks_of self.now }
+        ensures count { result ≡ block_count self.now }
         ensures some { 1 ≤ result }
         ensures within { result ≤ 64 }
     {

@@ -14,7 +14,7 @@ use Rattle.image_layout.specs.declared.table.TableEntry.{TableEntry}
 use Rattle.file_model.specs.Files.{IsFull, IsLowestUnused, IsUnnamed, Creates}
 use Rattle.nesc_session.specs.declared.files.held.Place.{Place}
 use Rattle.nesc_session.specs.HeldBlocks.{place_cmp}
-use Rattle.nesc_session.specs.FilesInMemory.{FilesInMemory, entry_at, body_of, file_of, files_of}
+use Rattle.nesc_session.specs.FilesInMemory.{FilesInMemory, entry_at, body_of, stored_file, files_of}
 use Rattle.nesc_session.proofs.Found.{none_passes}
 use Rattle.nesc_session.proofs.Items.{none_from, some_from}
 use Rattle.nesc_session.proofs.Placed.{is_some-option_map}
@@ -49,26 +49,26 @@ module _ (es : List (Option TableEntry)) (e : ℕ) (entry : TableEntry) where
       entry_at-get_or (slice_set es e (Some entry)) k ∙ get_or-set_other es e k (Some entry) None (λ same. apart (ap suc same)) ∙ sym (entry_at-get_or es k)
 
   -- an entry at a place is a file of its number
-  files_of-set : (blocks : FinMap place_cmp Block) → e < length es → files_of (slice_set es e (Some entry)) blocks ≡ insert (files_of es blocks) (suc e) (file_of blocks (suc e) entry)
+  files_of-set : (blocks : FinMap place_cmp Block) → e < length es → files_of (slice_set es e (Some entry)) blocks ≡ insert (files_of es blocks) (suc e) (stored_file blocks (suc e) entry)
   files_of-set blocks within = same_map nat_cmp_total nat_cmp-IsAntisymmetric _ _ (λ q. get-files_of blocks (slice_set es e (Some entry)) q ∙ ⊎_elim (here q) (other q) (cases_eq q (suc e)))
     where
-      here : (q : ℕ) → q ≡ suc e → option_map (file_of blocks q) (entry_at (slice_set es e (Some entry)) q) ≡ get (insert (files_of es blocks) (suc e) (file_of blocks (suc e) entry)) q
+      here : (q : ℕ) → q ≡ suc e → option_map (stored_file blocks q) (entry_at (slice_set es e (Some entry)) q) ≡ get (insert (files_of es blocks) (suc e) (stored_file blocks (suc e) entry)) q
       here q is =
-          subst (λ n. option_map (file_of blocks n) (entry_at (slice_set es e (Some entry)) n) ≡ get (insert (files_of es blocks) (suc e) (file_of blocks (suc e) entry)) n) (sym is)
-          (ap (option_map (file_of blocks (suc e))) (entry_at-set_same within) ∙ sym (get-insert_same (files_of es blocks) (suc e) (file_of blocks (suc e) entry)))
+          subst (λ n. option_map (stored_file blocks n) (entry_at (slice_set es e (Some entry)) n) ≡ get (insert (files_of es blocks) (suc e) (stored_file blocks (suc e) entry)) n) (sym is)
+          (ap (option_map (stored_file blocks (suc e))) (entry_at-set_same within) ∙ sym (get-insert_same (files_of es blocks) (suc e) (stored_file blocks (suc e) entry)))
 
-      other : (q : ℕ) → q ≢ suc e → option_map (file_of blocks q) (entry_at (slice_set es e (Some entry)) q) ≡ get (insert (files_of es blocks) (suc e) (file_of blocks (suc e) entry)) q
+      other : (q : ℕ) → q ≢ suc e → option_map (stored_file blocks q) (entry_at (slice_set es e (Some entry)) q) ≡ get (insert (files_of es blocks) (suc e) (stored_file blocks (suc e) entry)) q
       other q apart =
-          ap (option_map (file_of blocks q)) (entry_at-set_other q apart)
+          ap (option_map (stored_file blocks q)) (entry_at-set_other q apart)
           ∙ sym (get-files_of blocks es q)
-          ∙ sym (get-insert_other (files_of es blocks) (suc e) (file_of blocks (suc e) entry) q apart)
+          ∙ sym (get-insert_other (files_of es blocks) (suc e) (stored_file blocks (suc e) entry) q apart)
 
 module _ (blocks : FinMap place_cmp Block) (es : List (Option TableEntry)) {now : FilesInMemory} {room : ℕ} (view : record { files = files_of es blocks; room = room } ≡ now) where
   -- the number of an entry that is used is used
   is_some-get : (k : ℕ) → is_none (get_or es k None) ≡ false → is_some (get now.files (suc k)) ≡ true
   is_some-get k some =
       ap is_some (get-now blocks es view (suc k))
-      ∙ is_some-option_map (file_of blocks (suc k)) (entry_at es (suc k))
+      ∙ is_some-option_map (stored_file blocks (suc k)) (entry_at es (suc k))
       ∙ ap is_some (entry_at-get_or es k ∙ (some_from (get_or es k None) some).1)
 
   -- entries that are all used use each number
@@ -85,7 +85,7 @@ module _ (blocks : FinMap place_cmp Block) (es : List (Option TableEntry)) {now 
     lowest all = record {
       first = omega arith;
       last = omega (arith, (position-Some is_none es e None is).0);
-      unused = get-now blocks es view (suc e) ∙ ap (option_map (file_of blocks (suc e))) get-unused;
+      unused = get-now blocks es view (suc e) ∙ ap (option_map (stored_file blocks (suc e))) get-unused;
       lower = used;
     }
       where

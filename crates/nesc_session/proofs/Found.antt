@@ -15,7 +15,7 @@ use Rattle.nesc_base.specs.Files.{File}
 use Rattle.image_layout.specs.declared.table.TableEntry.{TableEntry}
 use Rattle.file_model.specs.Files.{HasName, IsUnnamed}
 use Rattle.nesc_session.specs.HeldBlocks.{place_cmp}
-use Rattle.nesc_session.specs.FilesInMemory.{FilesInMemory, entry_at, file_of, files_of, has_name}
+use Rattle.nesc_session.specs.FilesInMemory.{FilesInMemory, entry_at, stored_file, files_of, has_name}
 use Rattle.nesc_session.proofs.Numbered.{entry_at-get_or, get-now}
 
 -- where no element is the first that passes, it would stand past the end
@@ -40,9 +40,9 @@ module _ (blocks : FinMap place_cmp Block) (es : List (Option TableEntry)) {now 
       let at = position-Some (has_name name) es i None is in
       let named = named_entry name (get_or es i None) at.1 in
       let entry : entry_at es (i + 1) ≡ Some named.0 = rw add-one (entry_at-get_or es i ∙ named.1) in (
-        file_of blocks (i + 1) named.0,
+        stored_file blocks (i + 1) named.0,
         record {
-          stands = get-now blocks es view (i + 1) ∙ ap (option_map (file_of blocks (i + 1))) entry;
+          stands = get-now blocks es view (i + 1) ∙ ap (option_map (stored_file blocks (i + 1))) entry;
           named = named.2;
         },
       )
@@ -50,7 +50,7 @@ module _ (blocks : FinMap place_cmp Block) (es : List (Option TableEntry)) {now 
   -- no entry has the name
   pub IsUnnamed-position : position (has_name name) es ≡ None → IsUnnamed now.files name
   IsUnnamed-position none q file stands named =
-      let at = found (file_of blocks) 1 es q file (ap (λ m. get m.files q) view ∙ stands) in
+      let at = found (stored_file blocks) 1 es q file (ap (λ m. get m.files q) view ∙ stands) in
       let entry = at.2.0 in
       let fails = none_passes (has_name name) es at.0 None none (slice_get_within es at.0 (Some entry) at.2.1) in
       let has = (bytes_eq-Decides entry.name name).1 (ap (λ f. f.name) at.2.2 ∙ named) in

@@ -9,7 +9,7 @@ use Rattle.nesc_base.specs.Block.{zero_block}
 use Rattle.nesc_base.specs.Files.{Body, File, Files, file_at}
 use Rattle.file_model.specs.Files.{holds, with_zeros}
 use Rattle.file_model.specs.Handlings.{HoldsAll}
-use Rattle.nesc_session.specs.FilesInMemory.{Writes}
+use Rattle.nesc_session.specs.FilesInMemory.{WritesBlocks}
 use Rattle.nesc_session.proofs.Puts.{All-range, IsDistinct-range, none_from, get-with_zeros_other}
 use Rattle.nesc_session.proofs.Standing.{file_at-stands}
 use Rattle.nesc_session.proofs.Wanted.{is_wanted, wanted_from, wanted-fresh, wanted-held}
@@ -61,7 +61,7 @@ module _ (old : Files) (n : ℕ) (file : File) (stands : get old n ≡ Some file
         ∙ ap is_some (get-with_zeros_other file.body (wanted_from file v m) at (All-range (is_wanted file) (λ q. at ≢ q) v m (λ q low high is. omega arith)))
 
     -- the next one comes to be held too
-    HoldsAll-fresh : {new : Files} → at < file.length → holds file at ≡ false → Writes mid n at (zero_block ∷ []) new → HoldsAll old n (wanted_from file v (suc m)) new
+    HoldsAll-fresh : {new : Files} → at < file.length → holds file at ≡ false → WritesBlocks mid n at (zero_block ∷ []) new → HoldsAll old n (wanted_from file v (suc m)) new
     HoldsAll-fresh {new} below free writes = HoldsAll-wanted v (suc m) (
         writes.result
         ∙ (λ i. insert (result-HoldsAll (wanted_from file v m) so_far i) n (record (same i) { body = insert (same i).body at zero_block }))
@@ -77,11 +77,11 @@ module _ (old : Files) (n : ℕ) (file : File) (stands : get old n ≡ Some file
     HoldsAll-held {new} held same = subst (λ blocks. HoldsAll old n blocks new) (sym (wanted-held file v m at here held)) (subst (HoldsAll old n (wanted_from file v m)) (sym same) so_far)
 
     -- the step of the loop, where what is answered says whether the next one was not held
-    pub HoldsAll-more : {new : Files} (r : Bool) → at < file.length → r ≡ not (holds (file_at mid n) at) → (IsTrue r → Writes mid n at (zero_block ∷ []) new) → (IsFalse r → new ≡ mid)
+    pub HoldsAll-more : {new : Files} (r : Bool) → at < file.length → r ≡ not (holds (file_at mid n) at) → (IsTrue r → WritesBlocks mid n at (zero_block ∷ []) new) → (IsFalse r → new ≡ mid)
         → HoldsAll old n (wanted_from file v (suc m)) new × (length (wanted_from file v (suc m)) ≡ length (wanted_from file v m) + cond r 1 0)
     HoldsAll-more {new} r below is fresh same = step (holds file at) refl r (is ∙ ap not holds_then) fresh same
       where
-        step : (b : Bool) → holds file at ≡ b → (r : Bool) → r ≡ not (holds file at) → (IsTrue r → Writes mid n at (zero_block ∷ []) new) → (IsFalse r → new ≡ mid)
+        step : (b : Bool) → holds file at ≡ b → (r : Bool) → r ≡ not (holds file at) → (IsTrue r → WritesBlocks mid n at (zero_block ∷ []) new) → (IsFalse r → new ≡ mid)
             → HoldsAll old n (wanted_from file v (suc m)) new × (length (wanted_from file v (suc m)) ≡ length (wanted_from file v m) + cond r 1 0)
         step true held true is fresh same = absurd (false≢true (sym (is ∙ ap not held)))
         step true held false is fresh same = (HoldsAll-held held (same refl), ap length (wanted-held file v m at here held) ∙ omega arith)

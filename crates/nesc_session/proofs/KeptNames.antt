@@ -12,7 +12,7 @@ use Rattle.nesc_base.proofs.Numbered.{get_from}
 use Rattle.image_layout.specs.declared.table.TableEntry.{TableEntry}
 use Rattle.image_layout.specs.Owners.{Owner}
 use Rattle.image_opening.specs.Parts.{MayAllOwn}
-use Rattle.nesc_session.specs.FilesInMemory.{Writes, file_of, files_of}
+use Rattle.nesc_session.specs.FilesInMemory.{WritesBlocks, stored_file, files_of}
 
 -- what an entry says of a file, if there is one
 abbrev pub entry_for : Option File → Option TableEntry
@@ -23,7 +23,7 @@ abbrev pub KeepsNames : Files → Files → Type 0
 KeepsNames old new = (n : ℕ) → entry_for (get new n) ≡ entry_for (get old n)
 
 -- a block that is written keeps them
-pub keeps_names : (old new : Files) (n v : ℕ) (block : Block) → Writes old n v (block ∷ []) new → KeepsNames old new
+pub keeps_names : (old new : Files) (n v : ℕ) (block : Block) → WritesBlocks old n v (block ∷ []) new → KeepsNames old new
 keeps_names old new n v block writes q =
     let now : File = record writes.file { body = insert writes.file.body v block } in
     let result : get new q ≡ get (insert old n now) q = ap (λ (files : Files). get files q) writes.result in
@@ -34,7 +34,7 @@ keeps_names old new n v block writes q =
     ]
 
 -- an entry says what its file does
-named_back : (n : ℕ) (entry : Option TableEntry) → entry_for (option_map (file_of empty n) entry) ≡ entry
+named_back : (n : ℕ) (entry : Option TableEntry) → entry_for (option_map (stored_file empty n) entry) ≡ entry
 named_back n None = refl
 named_back n (Some entry) = refl
 
@@ -42,7 +42,7 @@ named_back n (Some entry) = refl
 pub named_first : (entries : List (Option TableEntry)) (e : ℕ) → entry_for (get (files_of entries empty) (e + 1)) ≡ unwrap_or (slice_get entries e) None
 named_first entries e =
     let next : e + 1 ≡ 1 + e = omega arith in
-    ap (λ n. entry_for (get (files_of entries empty) n)) next ∙ ap entry_for (get_from (file_of empty) 1 entries e)
+    ap (λ n. entry_for (get (files_of entries empty) n)) next ∙ ap entry_for (get_from (stored_file empty) 1 entries e)
     ∙ named_back (1 + e) (unwrap_or (slice_get entries e) None)
 
 -- where no entry is said, there is no file

@@ -25,7 +25,7 @@ use Rattle.image_layout.proofs.OpenedFiles.{placed, places_from, some_there}
 use Rattle.image_layout.proofs.TableLemmas.{slice_get-take}
 use Rattle.image_opening.specs.Parts.{AreParts, MayAllOwn, OpensAsItIs}
 use Rattle.slot_layout.proofs.Alike.{lays_itself}
-use Rattle.nesc_session.specs.FilesInMemory.{Writes, body_of, entries_in, file_of, files_of}
+use Rattle.nesc_session.specs.FilesInMemory.{WritesBlocks, body_of, entries_of_file, stored_file, files_of}
 use Rattle.nesc_session.specs.HeldBlocks.{place_cmp}
 use Rattle.nesc_session.proofs.KeptNames.{KeepsNames, entry_for, named_first, none_for}
 
@@ -61,12 +61,12 @@ no_items (x ∷ xs) some = absurd (omega (arith, some))
 get-none : (n v : ℕ) → get (body_of empty n) v ≡ None
 get-none n v =
     let none : entries (empty {X = Block} {R = place_cmp}) ≡ [] = no_items _ (sym (len-entries (empty {X = Block} {R = place_cmp})) ∙ len-empty place_cmp Block) in
-    ap (λ held. get (from_entries {R = nat_cmp} (entries_in n held)) v) none ∙ get-empty nat_cmp v
+    ap (λ held. get (from_entries {R = nat_cmp} (entries_of_file n held)) v) none ∙ get-empty nat_cmp v
 
 -- the files of a table hold nothing
 pub none_held : (geometry : Geometry) (laid : List Block) (entries : List (Option TableEntry)) → AreHeld geometry laid [] (files_of entries empty)
 none_held geometry laid entries n v file block at =
-    let body : body_of empty n ≡ file.body = ap (λ (f : File). f.body) (found (file_of empty) 1 entries n file at).2.2 in
+    let body : body_of empty n ≡ file.body = ap (λ (f : File). f.body) (found (stored_file empty) 1 entries n file at).2.2 in
     (λ is. absurd (none-some block (sym (get-none n v) ∙ ap (λ b. get b v) body ∙ is)), λ held. absurd (none-some (Some held.owner) held.owned))
 
 -- a file that holds a block is there, and the block
@@ -133,7 +133,7 @@ module _ (geometry : Geometry) (laid : List Block) (owners : List (Option Owner)
         (there, (is.k, before.0, before.1 ∙ ap (λ (o : Owner). Some (Some o)) same))
 
     module _ (owner : Owner) (block : Block) (new : Files) (there : slice_get owners k ≡ Some (Some owner)) (fresh : holds (file_at old owner.0.0) owner.1 ≡ false)
-        (stands : slice_get laid (area_from geometry + k) ≡ Some block) (writes : Writes old owner.0.0 owner.1 (block ∷ []) new) where
+        (stands : slice_get laid (area_from geometry + k) ≡ Some block) (writes : WritesBlocks old owner.0.0 owner.1 (block ∷ []) new) where
       -- the file of the owner, with the block
       abbrev now : File
       now = record writes.file { body = insert writes.file.body owner.1 block }
@@ -247,7 +247,7 @@ owns_twice image geometry entries owners k owner parts repeats first = record {
 whole_files : (image : List Block) (geometry : Geometry) (entries : List (Option TableEntry)) (owners : List (Option Owner)) (files : Files) (k : ℕ)
     → length owners ≤ k → KeepsNames (files_of entries empty) files → AreHeld geometry image (take k owners) files → AreFiles geometry image entries owners files
 whole_files image geometry entries owners files k all names held = record {
-  none = none_for (get files 0) (names 0 ∙ ap entry_for (get_before (file_of empty) 1 entries 0 (omega arith)));
+  none = none_for (get files 0) (names 0 ∙ ap entry_for (get_before (stored_file empty) 1 entries 0 (omega arith)));
   named = λ e. names (e + 1) ∙ named_first entries e;
   held = subst (λ (some : List (Option Owner)). AreHeld geometry image some files) (take_all k owners all) held;
 }

@@ -14,7 +14,7 @@ use Rattle.image_layout.specs.declared.table.TableEntry.{TableEntry}
 use Rattle.file_model.specs.Files.{holds}
 use Rattle.nesc_session.specs.declared.files.held.Place.{Place}
 use Rattle.nesc_session.specs.HeldBlocks.{place_cmp, is_same_place}
-use Rattle.nesc_session.specs.FilesInMemory.{FilesInMemory, entries_in, body_of, file_of, entry_at, files_of}
+use Rattle.nesc_session.specs.FilesInMemory.{FilesInMemory, entries_of_file, body_of, stored_file, entry_at, files_of}
 use Rattle.nesc_session.proofs.Placed.{is_some-option_map, eq_by_cmp-place_cmp}
 
 -- the place of a file's block
@@ -41,15 +41,15 @@ find-entry_in n v e rest false is =
     ap (λ b. cond b (Some e.1) (find nat_cmp v rest)) apart
 
 -- what a file's entries have at v is what all have at its place
-find-entries_in : (n v : ℕ) (es : List (Place × Block)) → find nat_cmp v (entries_in n es) ≡ find place_cmp (place n v) es
-find-entries_in n v [] = refl
-find-entries_in n v (e ∷ es) =
-    find-entry_in n v e (entries_in n es) _ refl
-    ∙ (λ i. cond (sym (eq_by_cmp-place_cmp (place n v) e.0) i) (Some e.1) (find-entries_in n v es i))
+find-entries_of_file : (n v : ℕ) (es : List (Place × Block)) → find nat_cmp v (entries_of_file n es) ≡ find place_cmp (place n v) es
+find-entries_of_file n v [] = refl
+find-entries_of_file n v (e ∷ es) =
+    find-entry_in n v e (entries_of_file n es) _ refl
+    ∙ (λ i. cond (sym (eq_by_cmp-place_cmp (place n v) e.0) i) (Some e.1) (find-entries_of_file n v es i))
 
 -- what a file's body has at v is what is held at its place
 pub get-body_of : (blocks : FinMap place_cmp Block) (n v : ℕ) → get (body_of blocks n) v ≡ get blocks (place n v)
-get-body_of blocks n v = get-from_entries nat_cmp_total (entries_in n (entries blocks)) v ∙ find-entries_in n v (entries blocks) ∙ sym (get-entries blocks (place n v))
+get-body_of blocks n v = get-from_entries nat_cmp_total (entries_of_file n (entries blocks)) v ∙ find-entries_of_file n v (entries blocks) ∙ sym (get-entries blocks (place n v))
 
 -- the entry of a number, by the place that it has in the list
 pub entry_at-get_or : (es : List (Option TableEntry)) (k : ℕ) → entry_at es (suc k) ≡ get_or es k None
@@ -57,11 +57,11 @@ entry_at-get_or es k = unwrap_or-slice_get es k None
 
 module _ (blocks : FinMap place_cmp Block) where
   -- the file of a number is that of its entry
-  pub get-files_of : (es : List (Option TableEntry)) (q : ℕ) → get (files_of es blocks) q ≡ option_map (file_of blocks q) (entry_at es q)
-  get-files_of es zero = get_before (file_of blocks) 1 es 0 (omega arith)
+  pub get-files_of : (es : List (Option TableEntry)) (q : ℕ) → get (files_of es blocks) q ≡ option_map (stored_file blocks q) (entry_at es q)
+  get-files_of es zero = get_before (stored_file blocks) 1 es 0 (omega arith)
   get-files_of es (suc k) =
       let one_more : 1 + k ≡ suc k = omega arith in
-      subst (λ q. get (files_of es blocks) q ≡ option_map (file_of blocks q) (unwrap_or (slice_get es k) None)) one_more (get_from (file_of blocks) 1 es k)
+      subst (λ q. get (files_of es blocks) q ≡ option_map (stored_file blocks q) (unwrap_or (slice_get es k) None)) one_more (get_from (stored_file blocks) 1 es k)
 
 -- What callers see
 
@@ -70,21 +70,21 @@ no_file = record { name = []; length = 0; body = empty }
 
 module _ (blocks : FinMap place_cmp Block) (es : List (Option TableEntry)) {now : FilesInMemory} {room : ℕ} (view : record { files = files_of es blocks; room = room } ≡ now) where
   -- the file of a number, by its entry
-  pub get-now : (q : ℕ) → get now.files q ≡ option_map (file_of blocks q) (entry_at es q)
+  pub get-now : (q : ℕ) → get now.files q ≡ option_map (stored_file blocks q) (entry_at es q)
   get-now q = ap (λ m. get m.files q) (sym view) ∙ get-files_of blocks es q
 
   -- a number that is used is that of an entry
   pub has_entry : (q : ℕ) → IsSome (get now.files q) → IsSome (entry_at es q)
-  has_entry q stands = sym (is_some-option_map (file_of blocks q) (entry_at es q)) ∙ ap is_some (sym (get-now q)) ∙ stands
+  has_entry q stands = sym (is_some-option_map (stored_file blocks q) (entry_at es q)) ∙ ap is_some (sym (get-now q)) ∙ stands
 
-  file_at-now : (q : ℕ) → file_at now.files q ≡ unwrap_or (option_map (file_of blocks q) (entry_at es q)) no_file
+  file_at-now : (q : ℕ) → file_at now.files q ≡ unwrap_or (option_map (stored_file blocks q) (entry_at es q)) no_file
   file_at-now q = ap (λ o. unwrap_or o no_file) (get-now q)
 
   -- the file's length is its entry's, and there is none where there is no entry
   pub length-now : (q : ℕ) → (file_at now.files q).length ≡ unwrap_or (option_map (λ e. e.length) (entry_at es q)) 0
   length-now q = ap (λ file. file.length) (file_at-now q) ∙ at (entry_at es q)
     where
-      at : (o : Option TableEntry) → (unwrap_or (option_map (file_of blocks q) o) no_file).length ≡ unwrap_or (option_map (λ e. e.length) o) 0
+      at : (o : Option TableEntry) → (unwrap_or (option_map (stored_file blocks q) o) no_file).length ≡ unwrap_or (option_map (λ e. e.length) o) 0
       at None = refl
       at (Some entry) = refl
 
@@ -96,7 +96,7 @@ module _ (blocks : FinMap place_cmp Block) (es : List (Option TableEntry)) {now 
       unfiled None e none = refl
       unfiled (Some block) e none = absurd (false≢true (sym (ap is_some none) ∙ filed (place q v) (ap is_some e)))
 
-      at : (o : Option TableEntry) → entry_at es q ≡ o → get (unwrap_or (option_map (file_of blocks q) o) no_file).body v ≡ get blocks (place q v)
+      at : (o : Option TableEntry) → entry_at es q ≡ o → get (unwrap_or (option_map (stored_file blocks q) o) no_file).body v ≡ get blocks (place q v)
       at None e = get-empty nat_cmp v ∙ unfiled (get blocks (place q v)) refl e
       at (Some entry) e = get-body_of blocks q v
 

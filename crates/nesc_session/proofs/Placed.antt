@@ -12,7 +12,7 @@ use Rattle.std.specs.FinMap.{get, contains_key, insert, get-insert, same_map, fi
 use Rattle.nesc_base.specs.declared.block.Block.{Block}
 use Rattle.nesc_base.specs.Block.{zero_block}
 use Rattle.nesc_session.specs.declared.files.held.Place.{Place}
-use Rattle.nesc_session.specs.HeldBlocks.{Held, place_cmp, is_same_place, entries_of, blocks_of, index_at, IsWellKept}
+use Rattle.nesc_session.specs.HeldBlocks.{Held, place_cmp, is_same_place, entries_of, blocks_at_places, index_at, IsWellKept}
 
 -- the order of places is total, and only equal places tie
 pub place_cmp_total : IsTotalOrder place_cmp
@@ -30,8 +30,8 @@ find-entries_of : (p : Place) (indices : List (Place × ℕ)) (blocks : List Blo
 find-entries_of p [] blocks = refl
 find-entries_of p (e ∷ es) blocks = rw (eq_by_cmp-place_cmp p e.0, find-entries_of p es blocks) (grind (arith, common_steps))
 
-pub get-blocks_of : (p : Place) (indices : List (Place × ℕ)) (blocks : List Block) → get (blocks_of indices blocks) p ≡ option_map (λ i. get_or blocks i zero_block) (index_at indices p)
-get-blocks_of p indices blocks = get-from_entries place_cmp_total (entries_of indices blocks) p ∙ find-entries_of p indices blocks
+pub get-blocks_at_places : (p : Place) (indices : List (Place × ℕ)) (blocks : List Block) → get (blocks_at_places indices blocks) p ≡ option_map (λ i. get_or blocks i zero_block) (index_at indices p)
+get-blocks_at_places p indices blocks = get-from_entries place_cmp_total (entries_of indices blocks) p ∙ find-entries_of p indices blocks
 
 -- what a call that succeeds says
 pub on_ok_then : {X E P : Type 0} (r : Result X E) → IsOk r → OnOk r P → P
@@ -64,12 +64,12 @@ module _ (blocks : List Block) (block : Block) where
   at_other n (Some i) other = ap Some (get_or-set_other blocks n i block zero_block (λ e. other (ap Some e)))
 
 module _ (old : List (Place × ℕ)) (blocks : List Block) (p : Place) (block : Block) where
-  get-blocks_of_insert : (q : Place) → get (insert (blocks_of old blocks) p block) q ≡ cond (is_same_place p q) (Some block) (option_map (λ i. get_or blocks i zero_block) (index_at old q))
-  get-blocks_of_insert q = get-insert place_cmp_total (blocks_of old blocks) p block q ∙ rw (eq_by_cmp-place_cmp_back p q, get-blocks_of q old blocks)
+  get-blocks_of_insert : (q : Place) → get (insert (blocks_at_places old blocks) p block) q ≡ cond (is_same_place p q) (Some block) (option_map (λ i. get_or blocks i zero_block) (index_at old q))
+  get-blocks_of_insert q = get-insert place_cmp_total (blocks_at_places old blocks) p block q ∙ rw (eq_by_cmp-place_cmp_back p q, get-blocks_at_places q old blocks)
 
   -- one more block at the list's end, with its index at the place
-  pub blocks_of-hold : ((q : Place) (i : ℕ) → index_at old q ≡ Some i → i < length blocks) → (new : List (Place × ℕ)) → ((q : Place) → index_at new q ≡ cond (is_same_place p q) (Some (length blocks)) (index_at old q)) → blocks_of new (blocks ++ block ∷ []) ≡ insert (blocks_of old blocks) p block
-  blocks_of-hold within new updates = same_map place_cmp_total place_cmp-IsAntisymmetric _ _ (λ q. get-blocks_of q new _ ∙ at q (is_same_place p q) (updates q) ∙ sym (get-blocks_of_insert q))
+  pub blocks_at_places-hold : ((q : Place) (i : ℕ) → index_at old q ≡ Some i → i < length blocks) → (new : List (Place × ℕ)) → ((q : Place) → index_at new q ≡ cond (is_same_place p q) (Some (length blocks)) (index_at old q)) → blocks_at_places new (blocks ++ block ∷ []) ≡ insert (blocks_at_places old blocks) p block
+  blocks_at_places-hold within new updates = same_map place_cmp_total place_cmp-IsAntisymmetric _ _ (λ q. get-blocks_at_places q new _ ∙ at q (is_same_place p q) (updates q) ∙ sym (get-blocks_of_insert q))
     where
       at : (q : Place) (same : Bool) → index_at new q ≡ cond same (Some (length blocks)) (index_at old q) → option_map (λ i. get_or (blocks ++ block ∷ []) i zero_block) (index_at new q) ≡ cond same (Some block) (option_map (λ i. get_or blocks i zero_block) (index_at old q))
       at q true e = ap (option_map _) e ∙ ap Some (get_or_push blocks block zero_block (length blocks) refl)
@@ -96,17 +96,17 @@ module _ (old : List (Place × ℕ)) (blocks : List Block) (p : Place) (block : 
       apart q r i false false s t e f = kept.apart q r i e f
 
   -- the block at the place's index is written
-  pub blocks_of-put : ((q r : Place) (i : ℕ) → index_at old q ≡ Some i → index_at old r ≡ Some i → q ≡ r) → (n : ℕ) → n < length blocks → index_at old p ≡ Some n → blocks_of old (set blocks n block) ≡ insert (blocks_of old blocks) p block
-  blocks_of-put apart n within here = same_map place_cmp_total place_cmp-IsAntisymmetric _ _ (λ q. get-blocks_of q old _ ∙ at q (is_same_place p q) refl ∙ sym (get-blocks_of_insert q))
+  pub blocks_at_places-put : ((q r : Place) (i : ℕ) → index_at old q ≡ Some i → index_at old r ≡ Some i → q ≡ r) → (n : ℕ) → n < length blocks → index_at old p ≡ Some n → blocks_at_places old (set blocks n block) ≡ insert (blocks_at_places old blocks) p block
+  blocks_at_places-put apart n within here = same_map place_cmp_total place_cmp-IsAntisymmetric _ _ (λ q. get-blocks_at_places q old _ ∙ at q (is_same_place p q) refl ∙ sym (get-blocks_of_insert q))
     where
       at : (q : Place) (same : Bool) → is_same_place p q ≡ same → option_map (λ i. get_or (set blocks n block) i zero_block) (index_at old q) ≡ cond same (Some block) (option_map (λ i. get_or blocks i zero_block) (index_at old q))
       at q true e = ap (λ r. option_map (λ i. get_or (set blocks n block) i zero_block) (index_at old r)) (sym (same_place p q e)) ∙ ap (option_map _) here ∙ ap Some (get_or-set_same blocks n block zero_block within)
       at q false e = at_other blocks block n (index_at old q) (λ there. false≢true (sym e ∙ ap (is_same_place p) (sym (apart p q n here there)) ∙ is_same_place_itself p))
 
 -- what the value of all has at a place, whose fields are these
-pub get-held : {held : Held} (indices : List (Place × ℕ)) (blocks : List Block) {room : ℕ} → record { blocks = blocks_of indices blocks; room = room } ≡ held → (p : Place) → get held.blocks p ≡ option_map (λ i. get_or blocks i zero_block) (index_at indices p)
-get-held indices blocks e p = ap (λ h. get h.blocks p) (sym e) ∙ get-blocks_of p indices blocks
+pub get-held : {held : Held} (indices : List (Place × ℕ)) (blocks : List Block) {room : ℕ} → record { blocks = blocks_at_places indices blocks; room = room } ≡ held → (p : Place) → get held.blocks p ≡ option_map (λ i. get_or blocks i zero_block) (index_at indices p)
+get-held indices blocks e p = ap (λ h. get h.blocks p) (sym e) ∙ get-blocks_at_places p indices blocks
 
 -- whether it has one
-pub contains_key-held : {held : Held} (indices : List (Place × ℕ)) (blocks : List Block) {room : ℕ} → record { blocks = blocks_of indices blocks; room = room } ≡ held → (p : Place) → contains_key held.blocks p ≡ is_some (index_at indices p)
+pub contains_key-held : {held : Held} (indices : List (Place × ℕ)) (blocks : List Block) {room : ℕ} → record { blocks = blocks_at_places indices blocks; room = room } ≡ held → (p : Place) → contains_key held.blocks p ≡ is_some (index_at indices p)
 contains_key-held indices blocks e p = ap is_some (get-held indices blocks e p) ∙ is_some-option_map _ _

@@ -11,7 +11,7 @@ use Rattle.nesc_base.specs.Block.{zero_block}
 use Rattle.nesc_base.specs.Files.{Body, File, Files, file_at}
 use Rattle.file_model.specs.Files.{HasName, holds, unheld, with_zeros, Puts, PutsEach}
 use Rattle.file_model.specs.HostCommands.{PutsBlocks}
-use Rattle.nesc_session.specs.FilesInMemory.{with_blocks, Writes}
+use Rattle.nesc_session.specs.FilesInMemory.{with_blocks, WritesBlocks}
 use Rattle.nesc_session.proofs.Numbered.{eqb_apart}
 use Rattle.nesc_session.proofs.Standing.{file_at-stands}
 use Rattle.nesc_base.proofs.Maps.{get-insert_same, insert_there, insert-insert}
@@ -112,8 +112,8 @@ PutsEach-with_blocks files n v (b ∷ bs) file stands held = (
     next = insert files n with_block
 
 -- the blocks that are written are those of such a put
-pub PutsBlocks-Writes : {old new : Files} {name : List ℕ} {n v : ℕ} {blocks : List Block} {file : File} → HasName old name n file → v + length blocks ≤ file.length → Writes old n v blocks new → PutsBlocks old name v blocks new
-PutsBlocks-Writes {old} {new} {name} {n} {v} {blocks} {file} named within writes = record {
+pub PutsBlocks-WritesBlocks : {old new : Files} {name : List ℕ} {n v : ℕ} {blocks : List Block} {file : File} → HasName old name n file → v + length blocks ≤ file.length → WritesBlocks old n v blocks new → PutsBlocks old name v blocks new
+PutsBlocks-WritesBlocks {old} {new} {name} {n} {v} {blocks} {file} named within writes = record {
   number = n;
   file = file;
   named = named;
@@ -154,8 +154,8 @@ PutsBlocks-Writes {old} {new} {name} {n} {v} {blocks} {file} named within writes
         ∙ sym writes.result
 
 -- a block that was held and is written is put
-pub Puts-Writes : {old new : Files} {n v : ℕ} {block : Block} → holds (file_at old n) v ≡ true → Writes old n v (block ∷ []) new → Puts old n v block new
-Puts-Writes {old} {new} {n} {v} held writes = record {
+pub Puts-WritesBlocks : {old new : Files} {n v : ℕ} {block : Block} → holds (file_at old n) v ≡ true → WritesBlocks old n v (block ∷ []) new → Puts old n v block new
+Puts-WritesBlocks {old} {new} {n} {v} held writes = record {
   file = writes.file;
   stands = writes.stands;
   held = ap (λ file. holds file v) (sym (file_at-stands old n writes.stands)) ∙ held;

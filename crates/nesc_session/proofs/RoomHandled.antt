@@ -8,7 +8,7 @@ use Rattle.nesc_requests.specs.declared.request.Miss.{Miss}
 use Rattle.nesc_requests.specs.declared.request.Queued.{Queued}
 use Rattle.nesc_requests.specs.declared.request.Request.{Request}
 use Rattle.nesc_requests.specs.declared.request.Request.TheVariants.{Read, Write}
-use Rattle.nesc_requests.specs.Requests.{blocks_of, first_of, is_write}
+use Rattle.nesc_requests.specs.Requests.{block_count, first_of, is_write}
 use Rattle.nesc_base.specs.Files.{File, Files, file_at}
 use Rattle.file_model.specs.Files.{holds, unheld, with_zeros}
 use Rattle.file_model.specs.Handlings.{HoldsAll, wanted}
@@ -52,7 +52,7 @@ module _ (old new : Files) (n : ℕ) (miss : Miss) (keeps : KeepsHeld old new) w
     pub length-unheld_handled : length (unheld (file_at new n) miss.v miss.n) + length (wanted (file_at old n) miss) ≤ length (unheld (file_at old n) miss.v miss.n)
     length-unheld_handled = length-unheld_held (wanted (file_at old n) miss) refl held
 
-    room_at-handled : (done : ℕ) (request : Request) → is_write request ≡ true → miss.v ≡ first_of request + done → miss.n ≡ blocks_of request - done
+    room_at-handled : (done : ℕ) (request : Request) → is_write request ≡ true → miss.v ≡ first_of request + done → miss.n ≡ block_count request - done
         → room_at (file_at new n) done request + length (wanted (file_at old n) miss) ≤ room_at (file_at old n) done request
     room_at-handled done (Read v into) writes at many = absurd (false≢true writes)
     room_at-handled done (Write v from) writes at many =
@@ -69,7 +69,7 @@ module _ (old new : Files) (n : ℕ) (miss : Miss) (keeps : KeepsHeld old new) w
         omega (arith, room_at-handled done head.request waits.0 waits.1 waits.2, room_in-keeps (file_at old n) (file_at new n) (keeps n) 0 rest)
 
 -- a function waits for no more than it has room for
-room_at-wanted : (file : File) (miss : Miss) (done : ℕ) (request : Request) → is_write request ≡ true → miss.v ≡ first_of request + done → miss.n ≡ blocks_of request - done
+room_at-wanted : (file : File) (miss : Miss) (done : ℕ) (request : Request) → is_write request ≡ true → miss.v ≡ first_of request + done → miss.n ≡ block_count request - done
     → length (wanted file miss) ≤ room_at file done request
 room_at-wanted file miss done (Read v into) writes at many = absurd (false≢true writes)
 room_at-wanted file miss done (Write v from) writes at many =

@@ -4,7 +4,7 @@ use Rattle.std.proofs.lemmas.List.Folds.{sum_by-replicate}
 use Rattle.std.proofs.lemmas.List.Sums.{sum_by-cons}
 use Rattle.std.proofs.lemmas.Option.{none-some, same_Some}
 use Rattle.std.specs.List.{sum_by}
-use Rattle.nesc_requests.specs.Requests.{blocks_of}
+use Rattle.nesc_requests.specs.Requests.{block_count}
 use Rattle.nesc_requests.specs.Script.{Script, requests_of, with_numbered}
 use Rattle.nesc_requests.specs.declared.host.HostCommand.{HostCommand}
 use Rattle.nesc_requests.specs.declared.host.HostCommand.TheVariants.{Create, Put, Get, Attach}
@@ -70,17 +70,17 @@ host_less : (commands : List HostCommand) → sum_by room_for commands ≤ sum_b
 host_less [] = omega arith
 host_less (command ∷ commands) = omega (arith, sum_by-cons room_for command commands, sum_by-cons blocks_in command commands, room_for-less command, host_less commands)
 
-room_to_write-less : (request : Request) → room_to_write request ≤ blocks_of request
+room_to_write-less : (request : Request) → room_to_write request ≤ block_count request
 room_to_write-less (Read v into) = omega arith
 room_to_write-less (Write v from) = omega arith
 
-requests_less : (requests : List Request) → sum_by room_to_write requests ≤ sum_by blocks_of requests
+requests_less : (requests : List Request) → sum_by room_to_write requests ≤ sum_by block_count requests
 requests_less [] = omega arith
-requests_less (request ∷ requests) = omega (arith, sum_by-cons room_to_write request requests, sum_by-cons blocks_of request requests, room_to_write-less request, requests_less requests)
+requests_less (request ∷ requests) = omega (arith, sum_by-cons room_to_write request requests, sum_by-cons block_count request requests, room_to_write-less request, requests_less requests)
 
-guests_less : (guests : List (List Request)) → sum_by (sum_by room_to_write) guests ≤ sum_by (sum_by blocks_of) guests
+guests_less : (guests : List (List Request)) → sum_by (sum_by room_to_write) guests ≤ sum_by (sum_by block_count) guests
 guests_less [] = omega arith
-guests_less (requests ∷ guests) = omega (arith, sum_by-cons (sum_by room_to_write) requests guests, sum_by-cons (sum_by blocks_of) requests guests, requests_less requests, guests_less guests)
+guests_less (requests ∷ guests) = omega (arith, sum_by-cons (sum_by room_to_write) requests guests, sum_by-cons (sum_by block_count) requests guests, requests_less requests, guests_less guests)
 
 -- all that is left brings no more blocks than it has
 pub script-less : (script : Script) → room_for_script script ≤ blocks_in_all script

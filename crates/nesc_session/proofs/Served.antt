@@ -11,7 +11,7 @@ use Rattle.nesc_requests.specs.declared.request.Queued.{Queued}
 use Rattle.nesc_requests.specs.declared.request.Request.{Request}
 use Rattle.nesc_requests.specs.declared.request.Request.TheVariants.{Read, Write}
 use Rattle.nesc_base.specs.Block.{zero_block}
-use Rattle.nesc_requests.specs.Requests.{blocks_of, first_of, is_write}
+use Rattle.nesc_requests.specs.Requests.{block_count, first_of, is_write}
 use Rattle.nesc_base.specs.Files.{Files, file_at}
 use Rattle.file_model.specs.Files.{Changes, holds, put, read}
 use Rattle.file_model.specs.Functions.{Attached, Function}
@@ -41,13 +41,13 @@ split_first [] x e = absurd (none-some _ e)
 split_first (y ∷ xs) x e = ap (λ z. z ∷ xs) (same_Some _ _ e)
 
 -- a request has as many blocks after one of them was reached
-pub blocks_of-reached : (files : Files) (turn : Turn) (request : Request) (how : How) (after : Request) (new : Files) → Reaches files turn request how after new → blocks_of after ≡ blocks_of request
-blocks_of-reached files turn (Read v into) (Walk fetched) after new reached = ap blocks_of reached.1 ∙ length-set into turn.attached.done _
-blocks_of-reached files turn (Read v into) (Hole fetched) after new reached = ap blocks_of reached.1 ∙ length-set into turn.attached.done _
-blocks_of-reached files turn (Read v into) Range after new reached = absurd reached
-blocks_of-reached files turn (Write v from) (Walk fetched) after new reached = ap blocks_of reached.0
-blocks_of-reached files turn (Write v from) (Hole fetched) after new reached = absurd reached
-blocks_of-reached files turn (Write v from) Range after new reached = absurd reached
+pub block_count-reached : (files : Files) (turn : Turn) (request : Request) (how : How) (after : Request) (new : Files) → Reaches files turn request how after new → block_count after ≡ block_count request
+block_count-reached files turn (Read v into) (Walk fetched) after new reached = ap block_count reached.1 ∙ length-set into turn.attached.done _
+block_count-reached files turn (Read v into) (Hole fetched) after new reached = ap block_count reached.1 ∙ length-set into turn.attached.done _
+block_count-reached files turn (Read v into) Range after new reached = absurd reached
+block_count-reached files turn (Write v from) (Walk fetched) after new reached = ap block_count reached.0
+block_count-reached files turn (Write v from) (Hole fetched) after new reached = absurd reached
+block_count-reached files turn (Write v from) Range after new reached = absurd reached
 
 -- what a turn shows does not rest on its number, its function and its replies
 shows : (held : Bool) (request : Request) (how : How) (f g : FnNo) (v w : ℕ) (replies others : List Line) → ShowsPlace held request (Served f v how ∷ replies) → ShowsPlace held request (Served g w how ∷ others)
@@ -101,7 +101,7 @@ module _ (f : FnNo) (old : Function) (attached : Attached) (head : Queued) (rest
 
   -- a write to a block that is not held
   pub ServesFunction-missed : (files : Files) → first_of head.request + attached.done < (file_at files attached.file).length → (miss : Miss)
-      → miss ≡ record { v = first_of head.request + attached.done; n = blocks_of head.request - attached.done; kind = Unmapped }
+      → miss ≡ record { v = first_of head.request + attached.done; n = block_count head.request - attached.done; kind = Unmapped }
       → (after : Request) (new : Files) → ReachesNext files attached.file attached.done head.request None after new
       → ServesFunction f old files (Missed f miss 0 ∷ []) (record old { attached = Some (record attached { waiting = Some miss }) }) new
   ServesFunction-missed files below miss is after new reached = record {
@@ -145,24 +145,24 @@ module _ (f : FnNo) (old : Function) (attached : Attached) (head : Queued) (rest
       result = refl;
     }
 
-    count : blocks_of after ≡ blocks_of head.request
-    count = blocks_of-reached files turn head.request how after new reached_here
+    count : block_count after ≡ block_count head.request
+    count = block_count-reached files turn head.request how after new reached_here
 
     -- the last block of a request
-    pub ServesFunction-last : blocks_of after ≤ attached.done + 1
+    pub ServesFunction-last : block_count after ≤ attached.done + 1
         → ServesFunction f old files (Served f (first_of head.request + attached.done) how ∷ Replied (record { f = f; id = head.id; end = end.Ok; done = attached.done + 1; request = after }) ∷ [])
         (record old { attached = Some (record attached { queue = rest; done = 0 }) }) new
     ServesFunction-last last =
-        let is : is_last turn ≡ true = passes (blocks_of head.request) (attached.done + 1) (omega (arith, count)) in
+        let is : is_last turn ≡ true = passes (block_count head.request) (attached.done + 1) (omega (arith, count)) in
         block (Replied (reply_of turn end.Ok (attached.done + 1) after) ∷ []) (ap (λ (b : Bool). if b then Replied (reply_of turn end.Ok (attached.done + 1) after) ∷ [] else []) (sym is))
         (ended turn) (ap (λ (b : Bool). if b then ended turn else record attached { queue = (record head { request = after }) ∷ rest; done = attached.done + 1 }) (sym is))
 
     -- and any other
-    pub ServesFunction-more : attached.done + 1 < blocks_of after
+    pub ServesFunction-more : attached.done + 1 < block_count after
         → ServesFunction f old files (Served f (first_of head.request + attached.done) how ∷ [])
         (record old { attached = Some (record attached { queue = (record head { request = after }) ∷ rest; done = attached.done + 1 }) }) new
     ServesFunction-more more =
-        let is : is_last turn ≡ false = fails (blocks_of head.request) (attached.done + 1) (omega (arith, count)) in
+        let is : is_last turn ≡ false = fails (block_count head.request) (attached.done + 1) (omega (arith, count)) in
         block [] (ap (λ (b : Bool). if b then Replied (reply_of turn end.Ok (attached.done + 1) after) ∷ [] else []) (sym is))
         (record attached { queue = (record head { request = after }) ∷ rest; done = attached.done + 1 })
         (ap (λ (b : Bool). if b then ended turn else record attached { queue = (record head { request = after }) ∷ rest; done = attached.done + 1 }) (sym is))

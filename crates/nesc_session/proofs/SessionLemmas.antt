@@ -10,8 +10,8 @@ use Rattle.file_model.specs.Functions.{Attached, Function, attached_of, in_turn,
 use Rattle.file_model.specs.Handlings.{Handles}
 use Rattle.file_model.specs.Misses.{MissLaw, ShowsPlace}
 use Rattle.file_model.specs.State.{State}
-use Rattle.file_model.specs.Submissions.{HasNext, IsFull, Queues, queueing}
-use Rattle.file_model.specs.Ticks.{IsTurn, TakesTurn, Ticks, Turn, block_of, file_of}
+use Rattle.file_model.specs.Submissions.{HasNext, IsQueueFull, Queues, queueing}
+use Rattle.file_model.specs.Ticks.{IsTurn, TakesTurn, Ticks, Turn, next_block, file_of}
 use Rattle.file_model.specs.declared.line.Handled.{Handled as Done}
 use Rattle.file_model.specs.declared.line.Handled.TheVariants as handled
 use Rattle.file_model.specs.declared.line.Line.{Line}
@@ -70,7 +70,7 @@ module _ (old : State) (index : ℕ) (item : Function) (within : index < length 
     -- it shows the place where it is, and no other function has the turn
     pub MissLaw-serves : MissLaw old lines
     MissLaw-serves turn has =
-        let Shows : Turn → Type 0 = λ turn. block_of turn < (file_of old.now turn).length → ShowsPlace (holds (file_of old.now turn) (block_of turn)) turn.head.request lines in
+        let Shows : Turn → Type 0 = λ turn. next_block turn < (file_of old.now turn).length → ShowsPlace (holds (file_of old.now turn) (next_block turn)) turn.head.request lines in
         subst Shows (one_turn old serves.turn turn its_turn has) serves.place
 
 -- where none is runnable, no function has the turn
@@ -119,13 +119,13 @@ none-left old f none = at (requests_of old.script f) none
     at (request ∷ left) none = grind (arith, nat_tests)
 
 -- there is no room for another request
-full_of : (old : State) (f : ℕ) (o : Option Attached) → attached_of old.functions f ≡ o → is_none o ≡ false → IfSome o (λ attached. true ≡ nat_le old.depth (length attached.queue)) → IsFull old f
+full_of : (old : State) (f : ℕ) (o : Option Attached) → attached_of old.functions f ≡ o → is_none o ≡ false → IfSome o (λ attached. true ≡ nat_le old.depth (length attached.queue)) → IsQueueFull old f
 full_of old f None on some full = cc
 full_of old f (Some attached) on some full = record { attached = attached; on = on; full = grind (arith, nat_tests) }
 
 module _ (old : State) (f index : ℕ) (item : Function) (number : f ≡ index + 1) (within : index < length old.functions) (is : item ≡ slice_index_or old.functions index item) (some : is_none item.attached ≡ false) where
-  pub IsFull-item : IfSome item.attached (λ attached. true ≡ nat_le old.depth (length attached.queue)) → IsFull old f
-  IsFull-item full = full_of old f item.attached (attached_of-item old.functions f index number item within is) some full
+  pub IsQueueFull-item : IfSome item.attached (λ attached. true ≡ nat_le old.depth (length attached.queue)) → IsQueueFull old f
+  IsQueueFull-item full = full_of old f item.attached (attached_of-item old.functions f index number item within is) some full
 
   pub Queues-item : (request : Request) (left : List Request) (id : ℕ) (new : Function) (script : Script) → requests_of old.script f ≡ request ∷ left → script ≡ record old.script { guests = with_numbered old.script.guests f left }
       → IfSome item.attached (λ attached. false ≡ nat_le old.depth (length attached.queue)) → IfSome item.attached (λ attached. new ≡ queueing item attached request) → id ≡ item.next

@@ -14,7 +14,7 @@ use Rattle.nesc_base.proofs.Maps.{get-insert_same, insert-insert, insert_there}
 use Rattle.image_layout.specs.declared.table.TableEntry.{TableEntry}
 use Rattle.nesc_session.specs.declared.files.held.Place.{Place}
 use Rattle.nesc_session.specs.HeldBlocks.{place_cmp, is_same_place}
-use Rattle.nesc_session.specs.FilesInMemory.{FilesInMemory, entry_at, body_of, file_of, files_of, with_blocks, Writes}
+use Rattle.nesc_session.specs.FilesInMemory.{FilesInMemory, entry_at, body_of, stored_file, files_of, with_blocks, WritesBlocks}
 use Rattle.nesc_session.proofs.Placed.{place_cmp_total, eq_by_cmp-place_cmp, same_place}
 use Rattle.nesc_session.proofs.Numbered.{place, get-body_of, get-files_of, get-now, eq_by_cmp-nat_cmp, eqb_itself}
 
@@ -49,8 +49,8 @@ module _ (blocks : FinMap place_cmp Block) (n v : ℕ) (block : Block) where
   files_of-insert : (es : List (Option TableEntry)) (e : TableEntry) → entry_at es n ≡ Some e → files_of es (insert blocks (place n v) block) ≡ insert (files_of es blocks) n (record { name = e.name; length = e.length; body = insert (body_of blocks n) v block })
   files_of-insert es e is = same_map nat_cmp_total nat_cmp-IsAntisymmetric _ _ (λ q. get-files_of _ es q ∙ at q (eqb q n) refl ∙ sym (get-insert_at (files_of es blocks) n _ q))
     where
-      at : (q : ℕ) (b : Bool) → eqb q n ≡ b → option_map (file_of (insert blocks (place n v) block) q) (entry_at es q) ≡ cond b (Some (record { name = e.name; length = e.length; body = insert (body_of blocks n) v block })) (get (files_of es blocks) q)
-      at q true same = subst (λ m. option_map (file_of (insert blocks (place n v) block) m) (entry_at es m) ≡ Some (record { name = e.name; length = e.length; body = insert (body_of blocks n) v block })) (sym (same_number q n same)) (ap (option_map (file_of (insert blocks (place n v) block) n)) is ∙ ap (λ body. Some (record { name = e.name; length = e.length; body = body })) body_of-insert_here)
+      at : (q : ℕ) (b : Bool) → eqb q n ≡ b → option_map (stored_file (insert blocks (place n v) block) q) (entry_at es q) ≡ cond b (Some (record { name = e.name; length = e.length; body = insert (body_of blocks n) v block })) (get (files_of es blocks) q)
+      at q true same = subst (λ m. option_map (stored_file (insert blocks (place n v) block) m) (entry_at es m) ≡ Some (record { name = e.name; length = e.length; body = insert (body_of blocks n) v block })) (sym (same_number q n same)) (ap (option_map (stored_file (insert blocks (place n v) block) n)) is ∙ ap (λ body. Some (record { name = e.name; length = e.length; body = body })) body_of-insert_here)
       at q false apart = ap (λ body. option_map (λ entry. record { name = entry.name; length = entry.length; body = body }) (entry_at es q)) (body_of-insert_other q apart) ∙ sym (get-files_of blocks es q)
 
 module _ (blocks : FinMap place_cmp Block) (es : List (Option TableEntry)) (n v : ℕ) (block : Block) where
@@ -63,14 +63,14 @@ module _ (blocks : FinMap place_cmp Block) (es : List (Option TableEntry)) (n v 
       at false apart some = filed p some
 
   -- the block is the file's
-  pub Writes-insert : {now : FilesInMemory} {room : ℕ} → record { files = files_of es blocks; room = room } ≡ now → IsSome (get now.files n) → Writes now.files n v (block ∷ []) (files_of es (insert blocks (place n v) block))
-  Writes-insert {now = now} view stands = at (entry_at es n) refl (ap is_some (sym (get-now blocks es view n)) ∙ stands)
+  pub WritesBlocks-insert : {now : FilesInMemory} {room : ℕ} → record { files = files_of es blocks; room = room } ≡ now → IsSome (get now.files n) → WritesBlocks now.files n v (block ∷ []) (files_of es (insert blocks (place n v) block))
+  WritesBlocks-insert {now = now} view stands = at (entry_at es n) refl (ap is_some (sym (get-now blocks es view n)) ∙ stands)
     where
-      at : (o : Option TableEntry) → entry_at es n ≡ o → is_some (option_map (file_of blocks n) o) ≡ true → Writes now.files n v (block ∷ []) (files_of es (insert blocks (place n v) block))
+      at : (o : Option TableEntry) → entry_at es n ≡ o → is_some (option_map (stored_file blocks n) o) ≡ true → WritesBlocks now.files n v (block ∷ []) (files_of es (insert blocks (place n v) block))
       at None e some = absurd (false≢true some)
       at (Some entry) e some = record {
-        file = file_of blocks n entry;
-        stands = get-now blocks es view n ∙ ap (option_map (file_of blocks n)) e;
+        file = stored_file blocks n entry;
+        stands = get-now blocks es view n ∙ ap (option_map (stored_file blocks n)) e;
         result = files_of-insert blocks n v block es entry e ∙ ap (λ m. insert m.files n (record { name = entry.name; length = entry.length; body = insert (body_of blocks n) v block })) view;
       }
 
@@ -84,16 +84,16 @@ with_blocks-push body v (b ∷ bs) block =
     with_blocks-push (insert body v b) (v + 1) bs block ∙ ap (λ at. insert (with_blocks (insert body v b) (v + 1) bs) at block) next
 
 -- no block is written yet
-pub Writes-none : (files : Files) (n v : ℕ) → IsSome (get files n) → Writes files n v [] files
-Writes-none files n v stands = at (get files n) refl stands
+pub WritesBlocks-none : (files : Files) (n v : ℕ) → IsSome (get files n) → WritesBlocks files n v [] files
+WritesBlocks-none files n v stands = at (get files n) refl stands
   where
-    at : (o : Option File) → get files n ≡ o → is_some o ≡ true → Writes files n v [] files
+    at : (o : Option File) → get files n ≡ o → is_some o ≡ true → WritesBlocks files n v [] files
     at None e some = absurd (false≢true some)
     at (Some file) e some = record { file = file; stands = e; result = sym (insert_there files n file e) }
 
 -- one more block is written behind the others
-pub Writes-push : {old mid new : Files} {n v : ℕ} {blocks : List Block} {block : Block} → Writes old n v blocks mid → (at : ℕ) → v + length blocks ≡ at → Writes mid n at (block ∷ []) new → Writes old n v (blocks ++ block ∷ []) new
-Writes-push {old} {mid} {new} {n} {v} {blocks} {block} before at is then = record {
+pub WritesBlocks-push : {old mid new : Files} {n v : ℕ} {blocks : List Block} {block : Block} → WritesBlocks old n v blocks mid → (at : ℕ) → v + length blocks ≡ at → WritesBlocks mid n at (block ∷ []) new → WritesBlocks old n v (blocks ++ block ∷ []) new
+WritesBlocks-push {old} {mid} {new} {n} {v} {blocks} {block} before at is then = record {
   file = before.file;
   stands = before.stands;
   result =
@@ -110,13 +110,13 @@ Writes-push {old} {mid} {new} {n} {v} {blocks} {block} before at is then = recor
     same = same_Some _ _ (sym then.stands ∙ ap (λ m. get m n) before.result ∙ get-insert_same old n so_far)
 
 -- the file still stands
-pub stands-Writes : {old new : Files} {n v : ℕ} {blocks : List Block} → Writes old n v blocks new → IsSome (get new n)
-stands-Writes {old} {new} {n} writes = ap is_some (ap (λ m. get m n) writes.result ∙ get-insert_same old n _)
+pub stands-WritesBlocks : {old new : Files} {n v : ℕ} {blocks : List Block} → WritesBlocks old n v blocks new → IsSome (get new n)
+stands-WritesBlocks {old} {new} {n} writes = ap is_some (ap (λ m. get m n) writes.result ∙ get-insert_same old n _)
 
 -- the next block of a list is written
-pub Writes-more : {old mid new : Files} {n v : ℕ} (blocks : List Block) (k : ℕ) {block : Block} → Writes old n v (take k blocks) mid → slice_get blocks k ≡ Some block → Writes mid n (v + k) (block ∷ []) new → Writes old n v (take (k + 1) blocks) new
-Writes-more {old} {mid} {new} {n} {v} blocks k {block} before at then =
+pub WritesBlocks-more : {old mid new : Files} {n v : ℕ} (blocks : List Block) (k : ℕ) {block : Block} → WritesBlocks old n v (take k blocks) mid → slice_get blocks k ≡ Some block → WritesBlocks mid n (v + k) (block ∷ []) new → WritesBlocks old n v (take (k + 1) blocks) new
+WritesBlocks-more {old} {mid} {new} {n} {v} blocks k {block} before at then =
     let within = slice_get_within blocks k block at in
     let more : take (k + 1) blocks ≡ take k blocks ++ block ∷ [] = take_more blocks k block within ∙ ap (λ b. take k blocks ++ b ∷ []) (get_or_from_slice_get blocks k block block at) in
     let so_far : v + length (take k blocks) ≡ v + k = omega (arith, length-take-le k blocks (omega arith)) in
-    subst (λ bs. Writes old n v bs new) (sym more) (Writes-push before (v + k) so_far then)
+    subst (λ bs. WritesBlocks old n v bs new) (sym more) (WritesBlocks-push before (v + k) so_far then)

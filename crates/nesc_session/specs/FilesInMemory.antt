@@ -33,23 +33,23 @@ files_code =
     code_by (Files × ℕ) (coded× (map.code coded_ℕ file_code) coded_ℕ) (λ f. (f.files, f.room)) (λ p. record { files = p.0; room = p.1 }) (λ _. refl)
 
 -- those of all blocks that are the file's, by where they stand in it
-abbrev pub entries_in : ℕ → List (Place × Block) → List (ℕ × Block)
-entries_in n [] = []
-entries_in n (e ∷ es) = if e.0.file.0 == n then (e.0.block, e.1) ∷ entries_in n es else entries_in n es
+abbrev pub entries_of_file : ℕ → List (Place × Block) → List (ℕ × Block)
+entries_of_file n [] = []
+entries_of_file n (e ∷ es) = if e.0.file.0 == n then (e.0.block, e.1) ∷ entries_of_file n es else entries_of_file n es
 
 abbrev pub body_of : FinMap place_cmp Block → ℕ → Body
-body_of blocks n = from_entries (entries_in n (entries blocks))
+body_of blocks n = from_entries (entries_of_file n (entries blocks))
 
 -- the file with a number
-abbrev pub file_of : FinMap place_cmp Block → ℕ → TableEntry → File
-file_of blocks n entry = record { name = entry.name; length = entry.length; body = body_of blocks n }
+abbrev pub stored_file : FinMap place_cmp Block → ℕ → TableEntry → File
+stored_file blocks n entry = record { name = entry.name; length = entry.length; body = body_of blocks n }
 
 -- the entry of the file with a number, the first of which is 1, if there is such a file
 abbrev pub entry_at : List (Option TableEntry) → ℕ → Option TableEntry
 entry_at entries n = unwrap_or (numbered entries n) None
 
 abbrev pub files_of : List (Option TableEntry) → FinMap place_cmp Block → Files
-files_of entries blocks = map_from (file_of blocks) 1 entries
+files_of entries blocks = map_from (stored_file blocks) 1 entries
 
 -- it is the entry of a file of this name
 abbrev pub has_name : List ℕ → Option TableEntry → Bool
@@ -78,7 +78,7 @@ with_blocks body v [] = body
 with_blocks body v (block ∷ blocks) = with_blocks (insert body v block) (v + 1) blocks
 
 -- the blocks are the file's from v on now, whether it held blocks there or not
-pub record Writes (old : Files) (n v : ℕ) (blocks : List Block) (new : Files) : Type 0 where
+pub record WritesBlocks (old : Files) (n v : ℕ) (blocks : List Block) (new : Files) : Type 0 where
   pub file : File
   pub stands : get old n ≡ Some file
   pub result : new ≡ insert old n (record file { body = with_blocks file.body v blocks })

@@ -35,8 +35,8 @@ abbrev pub entries_of : List (Place × ℕ) → List Block → List (Place × Bl
 entries_of [] blocks = []
 entries_of (e ∷ es) blocks = (e.0, slice_index_or blocks e.1 zero_block) ∷ entries_of es blocks
 
-abbrev pub blocks_of : List (Place × ℕ) → List Block → FinMap place_cmp Block
-blocks_of indices blocks = from_entries (entries_of indices blocks)
+abbrev pub blocks_at_places : List (Place × ℕ) → List Block → FinMap place_cmp Block
+blocks_at_places indices blocks = from_entries (entries_of indices blocks)
 
 -- the two are of one block of one file
 abbrev pub is_same_place : Place → Place → Bool

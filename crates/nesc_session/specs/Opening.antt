@@ -6,7 +6,7 @@ use Rattle.nesc_base.specs.Files.{Files, file_at}
 use Rattle.file_model.specs.Files.{holds}
 use Rattle.image_layout.specs.Owners.{Owner}
 use Rattle.slot_layout.specs.Slots.{block_at}
-use Rattle.nesc_session.specs.FilesInMemory.{Writes}
+use Rattle.nesc_session.specs.FilesInMemory.{WritesBlocks}
 
 -- how many data blocks are held
 abbrev pub held_in : List (Option Owner) → ℕ
@@ -17,4 +17,4 @@ pub record Loads (disk : Known) (at : ℕ) (old : Files) (n v : ℕ) (new : File
   pub fresh : holds (file_at old n) v ≡ false
   pub block : Block
   pub read : disk.tells ≡ true → block ≡ block_at disk.contents at
-  pub writes : Writes old n v (block ∷ []) new
+  pub writes : WritesBlocks old n v (block ∷ []) new

@@ -10,7 +10,7 @@ use Rattle.file_model.specs.Files.{holds}
 use Rattle.file_model.specs.Functions.{Attached, Function, off}
 use Rattle.file_model.specs.Handlings.{HoldsAll, wanted}
 use Rattle.file_model.specs.Misses.{ShowsPlace}
-use Rattle.file_model.specs.Ticks.{Reaches, Serves, Turn, block_of, file_of}
+use Rattle.file_model.specs.Ticks.{Reaches, Serves, Turn, next_block, file_of}
 use Rattle.file_model.specs.declared.line.Handled.{Handled}
 use Rattle.file_model.specs.declared.line.Handled.TheVariants as handled
 use Rattle.file_model.specs.declared.line.How.{How}
@@ -45,7 +45,7 @@ pub record ServesFunction (f : FnNo) (old : Function) (files : Files) (lines : L
   pub queue : turn.attached.queue ≡ turn.head ∷ turn.rest
   pub after : Attached
   pub serves : Serves files turn lines after later
-  pub place : block_of turn < (file_of files turn).length → ShowsPlace (holds (file_of files turn) (block_of turn)) turn.head.request lines
+  pub place : next_block turn < (file_of files turn).length → ShowsPlace (holds (file_of files turn) (next_block turn)) turn.head.request lines
   pub result : new ≡ record old { attached = Some after }
 
 -- all that the function waits for is held

@@ -9,7 +9,7 @@ ghost use Rattle.nesc_requests.specs.declared.request.Kind.TheVariants.{Unmapped
 ghost use Rattle.nesc_session.specs.Room.{KeepsHeld};
 ghost use Rattle.file_model.specs.HostCommands.{FileStep};
 ghost use Rattle.nesc_base.specs.Block.{zero_block};
-ghost use Rattle.nesc_session.specs.FilesInMemory.{IsInside, Refuses, Writes, entry_at, files_of, has_name};
+ghost use Rattle.nesc_session.specs.FilesInMemory.{IsInside, Refuses, WritesBlocks, entry_at, files_of, has_name};
 
 mod held;
 
@@ -50,7 +50,7 @@ fn has_name(entry: &Option<TableEntry>, name: &Name) -> bool
 }
 
 // At which index the first entry of a name is.
-fn index_of(table: &Table, name: &Name) -> Option<usize>
+fn index_of_name(table: &Table, name: &Name) -> Option<usize>
     ensures index { result ≡ position (has_name name.now) table.now }
     ensures all { length table.now ≡ most_files }
 {
@@ -93,7 +93,7 @@ impl Files {
         ensures { MatchOption result (IsUnnamed self.now.files name.now)
             (λ n. (file : File) × HasName self.now.files name.now n.0 file) }
     {
-        let index = index_of(&self.table, name)?;
+        let index = index_of_name(&self.table, name)?;
         Some(FileNo(index as u16 + 1))
     }
 
@@ -114,7 +114,7 @@ impl Files {
         self.held.get(Place { file, block: v })
     }
 
-    /// Writes a file's block `v` where it is held, and says whether it is.
+    /// WritesBlocks a file's block `v` where it is held, and says whether it is.
     pub fn write_held(&mut self, file: FileNo, v: u32, block: &Block) -> bool
         ensures held { result ≡ holds (file_at self.old.files file.0) v }
         ensures written { IsTrue result → Changes self.old.files (put file.0 v block.now) self.new.files }
@@ -148,7 +148,7 @@ impl Files {
         requires below { v < (file_at self.old.files file.0).length }
         requires room { holds (file_at self.old.files file.0) v ≡ false → 0 < self.old.room }
         ensures fresh { result ≡ not (holds (file_at self.old.files file.0) v) }
-        ensures zeros { IsTrue result → Writes self.old.files file.0 v (zero_block ∷ []) self.new.files }
+        ensures zeros { IsTrue result → WritesBlocks self.old.files file.0 v (zero_block ∷ []) self.new.files }
         ensures same { IsFalse result → self.new.files ≡ self.old.files }
         ensures room { self.new.room + (if result then 1 else 0) ≡ self.old.room }
     {
@@ -176,22 +176,22 @@ impl Files {
         HostAnswer::Ok
     }
 
-    /// Writes a file's block `v`, whether the file held one there or not.
+    /// WritesBlocks a file's block `v`, whether the file held one there or not.
     pub fn write(&mut self, file: FileNo, v: u32, block: &Block)
         requires stands { IsSome (get self.old.files file.0) }
         requires room { 0 < self.old.room }
-        ensures blocks { Writes self.old.files file.0 v (block.now ∷ []) self.new.files }
+        ensures blocks { WritesBlocks self.old.files file.0 v (block.now ∷ []) self.new.files }
         ensures room { self.old.room ≤ self.new.room + 1 }
     {
         self.held.put(Place { file, block: v }, block);
     }
 
-    // Writes blocks of a file from `v` on, whether the file held them or not.
+    // WritesBlocks blocks of a file from `v` on, whether the file held them or not.
     fn write_all(&mut self, file: FileNo, v: u32, blocks: &Blocks)
         requires stands { IsSome (get self.old.files file.0) }
         requires within { v + length blocks.now < 2 ^ 32 }
         requires room { length blocks.now ≤ self.old.room }
-        ensures blocks { Writes self.old.files file.0 v blocks.now self.new.files }
+        ensures blocks { WritesBlocks self.old.files file.0 v blocks.now self.new.files }
         ensures room { self.old.room ≤ self.new.room + length blocks.now }
     {
         for k in 0..blocks.len() {
@@ -209,7 +209,7 @@ impl Files {
 
     // The file of a name, where so many of its blocks from `v` on all lie below its length, or else what the host
     // is answered.
-    fn reach(&self, name: &Name, v: u32, n: u32) -> Result<FileNo, HostAnswer>
+    fn find_inside(&self, name: &Name, v: u32, n: u32) -> Result<FileNo, HostAnswer>
         ensures found { IfOk result (λ number. IsInside self.now.files name.now number.0 v n) }
         ensures refused { IfErr result (Refuses self.now.files name.now v n) }
         ensures fits { OnOk result (v + n < 2 ^ 32) }
@@ -221,14 +221,14 @@ impl Files {
         Ok(file)
     }
 
-    /// Writes blocks of a file from `v` on, if they lie below its length. There must be room for all of them.
+    /// WritesBlocks blocks of a file from `v` on, if they lie below its length. There must be room for all of them.
     pub fn put(&mut self, name: &Name, v: u32, blocks: &Blocks) -> HostAnswer
         requires { length blocks.now ≤ self.old.room }
         ensures step { FileStep self.old.files (HostCommand.Put name.now v blocks.now) result self.new.files }
         ensures room { self.old.room ≤ self.new.room + length blocks.now }
         ensures keeps { KeepsHeld self.old.files self.new.files }
     {
-        match self.reach(name, v, blocks.len()) {
+        match self.find_inside(name, v, blocks.len()) {
             Ok(file) => {
                 self.write_all(file, v, blocks);
                 HostAnswer::Ok
@@ -252,7 +252,7 @@ impl Files {
     pub fn get(&self, name: &Name, v: u32, mut into: Blocks) -> HostAnswer
         ensures { FileStep self.now.files (HostCommand.Get name.now v into) result self.now.files }
     {
-        match self.reach(name, v, into.len()) {
+        match self.find_inside(name, v, into.len()) {
             Ok(file) => {
                 self.read_all(file, v, &mut into);
                 HostAnswer::Got(into)

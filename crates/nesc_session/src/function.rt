@@ -1,6 +1,6 @@
 //! One function: what it has, and the requests that wait for it.
 ghost use Rattle.std.specs.Prelude.{◌≡◌, ◌+◌, ◌-◌, ◌<◌, ◌≤◌, true, length, nat_le, is_none, IfOk, IfSome, IsSomeAnd, Some};
-ghost use Rattle.nesc_requests.specs.Requests.{Fits, blocks_of, first_of};
+ghost use Rattle.nesc_requests.specs.Requests.{IsNumbered, block_count, first_of};
 ghost use Rattle.nesc_requests.specs.declared.request.Kind.TheVariants.{Unmapped};
 ghost use Rattle.file_model.specs.Functions.{fresh, has_file, is_ready, off};
 ghost use Rattle.file_model.specs.Submissions.{queueing};
@@ -101,7 +101,7 @@ impl Function {
     /// Lets a request wait, behind the others, and answers its number.
     pub fn submit(&mut self, request: Request) -> u64
         requires room { IsSomeAnd self.old.attached (λ attached. length attached.queue < most_queued) }
-        requires fits { Fits request }
+        requires fits { IsNumbered request }
         ensures queued { IfSome self.old.attached (λ attached. self.new ≡ queueing self.old attached request) }
         ensures number { result ≡ self.old.next }
     {
@@ -171,7 +171,7 @@ impl Function {
 // Reads or writes the next block of a request, of which so many are done: the file's block `v`. `None` says that it is
 // a write to a block that is not held, which does nothing.
 fn reach(files: &mut Files, file: FileNo, v: u32, request: &mut Request, done: u32) -> Option<How>
-    requires next { done < blocks_of request.old }
+    requires next { done < block_count request.old }
     requires place { v ≡ first_of request.old + done }
     ensures reaches { ReachesNext files.old.files file.0 done request.old result request.new files.new.files }
     ensures room { files.new.room ≡ files.old.room }
@@ -197,8 +197,8 @@ fn reach(files: &mut Files, file: FileNo, v: u32, request: &mut Request, done: u
 
 // What a write waits for that comes to a block `v` that is not held, after so many blocks.
 fn miss(request: &Request, v: u32, done: u32) -> Miss
-    requires { done < blocks_of request.now }
-    ensures { result ≡ record { v = v; n = blocks_of request.now - done; kind = Unmapped } }
+    requires { done < block_count request.now }
+    ensures { result ≡ record { v = v; n = block_count request.now - done; kind = Unmapped } }
 {
     Miss {
         v,

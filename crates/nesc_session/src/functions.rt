@@ -20,7 +20,7 @@ pub(crate) fn new_functions(alloc: Global, count: u8) -> Result<Vec<Function>, N
 }
 
 /// At which index the function of a number stands, where there is one.
-pub(crate) fn index_of(functions: &[Function], f: FnNo) -> Option<usize>
+pub(crate) fn index_of_function(functions: &[Function], f: FnNo) -> Option<usize>
     ensures { MatchOption result (numbered functions.now f.0 ≡ None)
         (λ index. (index < length functions.now) × (f.0 ≡ index + 1)) }
 {

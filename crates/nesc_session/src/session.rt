@@ -21,7 +21,7 @@ ghost use Rattle.nesc_session.specs.Session.{IsReady, IsReadyFor, state_of};
 use crate::Outcome;
 use crate::files::Files;
 use crate::function::Function;
-use crate::functions::{index_of, is_taken, new_functions, next_index};
+use crate::functions::{index_of_function, is_taken, new_functions, next_index};
 use crate::opening::open_files;
 use file_model::{Handled, Line, Submission};
 use image_layout::OpenFault;
@@ -115,7 +115,7 @@ impl Session {
         if !self.commands.has_next(f) {
             return Submission::End;
         }
-        let Some(index) = index_of(&self.functions, f) else {
+        let Some(index) = index_of_function(&self.functions, f) else {
             return Submission::Off;
         };
         if self.functions[index].is_off() {
@@ -165,7 +165,7 @@ impl Session {
         let Some(file) = self.files.find(name) else {
             return HostAnswer::NoFile;
         };
-        let Some(index) = index_of(&self.functions, f) else {
+        let Some(index) = index_of_function(&self.functions, f) else {
             return HostAnswer::FunctionTaken;
         };
         if !self.functions[index].is_off() {
@@ -184,7 +184,7 @@ impl Session {
         ensures step { (kept : plain.Files) → Handles (state_of kept self.old) f.0 result (state_of kept self.new) }
         ensures ready { IsReady self.new }
     {
-        match index_of(&self.functions, f) {
+        match index_of_function(&self.functions, f) {
             None => Handled::None,
             Some(index) => self.functions[index].handle(&mut self.files),
         }

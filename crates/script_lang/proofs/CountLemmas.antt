@@ -3,7 +3,7 @@ use Rattle.std.proofs.Common.{◌≡◌, ℕ, ◌-◌, ◌<◌, nat_le, Bool, tr
 use Rattle.std.proofs.lemmas.List.Sums.{sum_by-append, sum_by-cons}
 use Rattle.std.specs.List.{sum_by}
 use Rattle.toml.specs.Data.{Data, string, integer, float, boolean, datetime, array, table, Items, item}
-use Rattle.nesc_requests.specs.Requests.{blocks_of}
+use Rattle.nesc_requests.specs.Requests.{block_count}
 use Rattle.nesc_requests.specs.declared.request.Request.{Request}
 use Rattle.script_lang.specs.CommandsText.{each_of_items, each_at, enough_guests, guests_of_items, request_of}
 use Rattle.script_lang.specs.Limits.{most_blocks, most_functions}
@@ -22,7 +22,7 @@ done-too_many blocks done (Some more) many = let sum = sum_by-append blocks done
 
 -- how many blocks all guests have
 abbrev pub blocks_of_guests : List (List Request) → ℕ
-blocks_of_guests = sum_by (sum_by blocks_of)
+blocks_of_guests = sum_by (sum_by block_count)
 
 -- they have too many, also with guests behind them that have no requests
 if_few-too_many : (few : Bool) (guests : List (List Request)) → most_blocks < blocks_of_guests guests → TooMany blocks_of_guests (if few then Some guests else None)
@@ -32,20 +32,20 @@ if_few-too_many false guests many = tt
 named-too_many : (guests : List (List Request)) → most_blocks < blocks_of_guests guests → TooMany blocks_of_guests (enough_guests guests)
 named-too_many guests many =
     let idle = replicate (most_functions - length guests) [] in
-    let sum = sum_by-append (sum_by blocks_of) guests idle in
+    let sum = sum_by-append (sum_by block_count) guests idle in
     if_few-too_many (nat_le (length guests) most_functions) (guests ++ idle) (omega arith)
 
 -- one of them has too many
-one-too_many : (done : List (List Request)) (requests : Option (List Request)) (guests : Option (List (List Request))) → TooMany (sum_by blocks_of) requests
+one-too_many : (done : List (List Request)) (requests : Option (List Request)) (guests : Option (List (List Request))) → TooMany (sum_by block_count) requests
     → TooMany blocks_of_guests (onto done (requests >>= λ r. guests >>= λ gs. Some (r ∷ gs)) >>= enough_guests)
 one-too_many done None guests many = tt
 one-too_many done (Some r) None many = tt
 one-too_many done (Some r) (Some gs) many =
-    let sum = sum_by-append (sum_by blocks_of) done (r ∷ gs) in
-    let front = sum_by-cons (sum_by blocks_of) r gs in
+    let sum = sum_by-append (sum_by block_count) done (r ∷ gs) in
+    let front = sum_by-cons (sum_by block_count) r gs in
     named-too_many (done ++ r ∷ gs) (omega arith)
 
-pub guest-too_many : (value : Data) (items : Items) (done : List (List Request)) → TooMany (sum_by blocks_of) (each_at request_of (Some value))
+pub guest-too_many : (value : Data) (items : Items) (done : List (List Request)) → TooMany (sum_by block_count) (each_at request_of (Some value))
     → TooMany blocks_of_guests (onto done (guests_of_items (item value items)) >>= enough_guests)
 guest-too_many (array more) items done many = one-too_many done (each_of_items request_of more) (guests_of_items items) many
 guest-too_many (string text) items done many = tt

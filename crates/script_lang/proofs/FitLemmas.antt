@@ -7,11 +7,11 @@ use Rattle.text_kit.specs.Number.{number_of}
 use Rattle.toml.specs.Data.{Data, string, integer, float, boolean, datetime, array, table, Items, no_items, item}
 use Rattle.nesc_base.specs.Block.{zero_block}
 use Rattle.nesc_base.specs.BlockText.{block_of_text}
-use Rattle.nesc_requests.specs.Requests.{Fits}
+use Rattle.nesc_requests.specs.Requests.{IsNumbered}
 use Rattle.nesc_requests.specs.declared.host.HostCommand.{HostCommand}
 use Rattle.nesc_requests.specs.declared.request.Request.{Request}
 use Rattle.script_lang.specs.declared.words.Separators.TheVariants.{Spaces}
-use Rattle.script_lang.specs.CommandsText.{up_to, number_to, from_one, count_of, blocks_of, read_of, write_of, request_of_words, request_of, is_trimmed, strings_of, each_of_items, guests_of_items, guests_at, enough_guests, guests_of}
+use Rattle.script_lang.specs.CommandsText.{up_to, number_to, from_one, count_of, read_blocks, read_of, write_of, request_of_words, request_of, is_trimmed, strings_of, each_of_items, guests_of_items, guests_at, enough_guests, guests_of}
 use Rattle.script_lang.specs.Left.{IsKept}
 use Rattle.script_lang.specs.Words.{each, words_of, ◌>>=◌}
 
@@ -57,40 +57,40 @@ le_from_test : (b : Bool) (n : ℕ) → (b && nat_le n 64) ≡ true → n ≤ 64
 le_from_test true n is = grind (arith, nat_tests)
 le_from_test false n is = cc
 
-blocks-within : (texts : List (List ℕ)) → IfSome (blocks_of texts) (λ blocks. length blocks ≤ 64)
+blocks-within : (texts : List (List ℕ)) → IfSome (read_blocks texts) (λ blocks. length blocks ≤ 64)
 blocks-within texts =
     if_some-when (λ blocks. length blocks ≤ 64) (nat_le 1 (length texts) && nat_le (length texts) 64) (each block_of_text texts)
     (λ is.
     let few : length texts ≤ 64 = le_from_test (nat_le 1 (length texts)) (length texts) is in
     if_some-weaker (λ blocks. length blocks ≡ length texts) (λ blocks. length blocks ≤ 64) (each block_of_text texts) (each-length block_of_text texts) (λ blocks same. omega arith))
 
-read-fits : (words : List (List ℕ)) → IfSome (read_of words) Fits
+read-fits : (words : List (List ℕ)) → IfSome (read_of words) IsNumbered
 read-fits [] = tt
 read-fits (v ∷ []) = tt
 read-fits (v ∷ n ∷ []) =
-    if_some-then (λ v. v ≤ 1048575) Fits (number_to 1048575 v) _ (number-within 1048575 v)
-    (λ v low. if_some-then (λ n. n ≤ 64) Fits (count_of n) _ (count-within n) (λ n few. let long = length-replicate n zero_block in omega arith))
+    if_some-then (λ v. v ≤ 1048575) IsNumbered (number_to 1048575 v) _ (number-within 1048575 v)
+    (λ v low. if_some-then (λ n. n ≤ 64) IsNumbered (count_of n) _ (count-within n) (λ n few. let long = length-replicate n zero_block in omega arith))
 read-fits (v ∷ n ∷ x ∷ more) = tt
 
-write-fits : (words : List (List ℕ)) → IfSome (write_of words) Fits
+write-fits : (words : List (List ℕ)) → IfSome (write_of words) IsNumbered
 write-fits [] = tt
 write-fits (v ∷ texts) =
-    if_some-then (λ v. v ≤ 1048575) Fits (number_to 1048575 v) _ (number-within 1048575 v)
-    (λ v low. if_some-then (λ blocks. length blocks ≤ 64) Fits (blocks_of texts) _ (blocks-within texts) (λ blocks few. omega arith))
+    if_some-then (λ v. v ≤ 1048575) IsNumbered (number_to 1048575 v) _ (number-within 1048575 v)
+    (λ v low. if_some-then (λ blocks. length blocks ≤ 64) IsNumbered (read_blocks texts) _ (blocks-within texts) (λ blocks few. omega arith))
 
-either-fits : (b : Bool) (x y : Option Request) → IfSome x Fits → IfSome y Fits → IfSome (if b then x else y) Fits
+either-fits : (b : Bool) (x y : Option Request) → IfSome x IsNumbered → IfSome y IsNumbered → IfSome (if b then x else y) IsNumbered
 either-fits true x y p q = p
 either-fits false x y p q = q
 
-words-fit : (words : List (List ℕ)) → IfSome (request_of_words words) Fits
+words-fit : (words : List (List ℕ)) → IfSome (request_of_words words) IsNumbered
 words-fit [] = tt
 words-fit (first ∷ words) =
     either-fits (bytes_eq first (codes "r")) (read_of words) (if bytes_eq first (codes "w") then write_of words else None) (read-fits words)
     (either-fits (bytes_eq first (codes "w")) (write_of words) None (write-fits words) tt)
 
 -- a request that is read fits
-pub request-fits : (text : List ℕ) → IfSome (request_of text) Fits
-request-fits text = if_some-when Fits (is_trimmed text) (request_of_words (words_of Spaces text)) (λ is. words-fit (words_of Spaces text))
+pub request-fits : (text : List ℕ) → IfSome (request_of text) IsNumbered
+request-fits text = if_some-when IsNumbered (is_trimmed text) (request_of_words (words_of Spaces text)) (λ is. words-fit (words_of Spaces text))
 
 -- so do all that are read
 both : {B : Type 0} (P : B → Type 0) (y : Option B) (ys : Option (List B)) → IfSome y P → IfSome ys (AllByRecursion P) → IfSome (y >>= λ z. ys >>= λ zs. Some (z ∷ zs)) (AllByRecursion P)
@@ -102,12 +102,12 @@ each-all : {A B : Type 0} (P : B → Type 0) (f : A → Option B) (xs : List A) 
 each-all P f [] p = tt
 each-all P f (x ∷ xs) p = both P (f x) (each f xs) (p x) (each-all P f xs p)
 
-requests-fit : (items : Items) → IfSome (each_of_items request_of items) (AllByRecursion Fits)
-requests-fit items = if_some-any (AllByRecursion Fits) (strings_of items) (each request_of) (λ texts. each-all Fits request_of texts request-fits)
+requests-fit : (items : Items) → IfSome (each_of_items request_of items) (AllByRecursion IsNumbered)
+requests-fit items = if_some-any (AllByRecursion IsNumbered) (strings_of items) (each request_of) (λ texts. each-all IsNumbered request_of texts request-fits)
 
-guests-fit : (items : Items) → IfSome (guests_of_items items) (AllByRecursion (AllByRecursion Fits))
+guests-fit : (items : Items) → IfSome (guests_of_items items) (AllByRecursion (AllByRecursion IsNumbered))
 guests-fit no_items = tt
-guests-fit (item (array items) more) = both (AllByRecursion Fits) (each_of_items request_of items) (guests_of_items more) (requests-fit items) (guests-fit more)
+guests-fit (item (array items) more) = both (AllByRecursion IsNumbered) (each_of_items request_of items) (guests_of_items more) (requests-fit items) (guests-fit more)
 guests-fit (item (string text) more) = tt
 guests-fit (item (integer z) more) = tt
 guests-fit (item (float y) more) = tt
@@ -115,7 +115,7 @@ guests-fit (item (boolean b) more) = tt
 guests-fit (item (datetime dt) more) = tt
 guests-fit (item (table entries) more) = tt
 
-guests_at-fit : (value : Option Data) → IfSome (guests_at value) (AllByRecursion (AllByRecursion Fits))
+guests_at-fit : (value : Option Data) → IfSome (guests_at value) (AllByRecursion (AllByRecursion IsNumbered))
 guests_at-fit None = tt
 guests_at-fit (Some (array items)) = guests-fit items
 guests_at-fit (Some (string text)) = tt
@@ -126,12 +126,12 @@ guests_at-fit (Some (datetime dt)) = tt
 guests_at-fit (Some (table entries)) = tt
 
 -- guests with no requests behind them change nothing
-with_idle : (n : ℕ) (guests : List (List Request)) → AllByRecursion (AllByRecursion Fits) guests → AllByRecursion (AllByRecursion Fits) (guests ++ replicate n [])
+with_idle : (n : ℕ) (guests : List (List Request)) → AllByRecursion (AllByRecursion IsNumbered) guests → AllByRecursion (AllByRecursion IsNumbered) (guests ++ replicate n [])
 with_idle zero [] fit = tt
 with_idle (suc n) [] fit = (tt, with_idle n [] tt)
 with_idle n (guest ∷ guests) fit = (fit.0, with_idle n guests fit.1)
 
-enough-kept : (host : List HostCommand) (guests : List (List Request)) → AllByRecursion (AllByRecursion Fits) guests
+enough-kept : (host : List HostCommand) (guests : List (List Request)) → AllByRecursion (AllByRecursion IsNumbered) guests
     → IfSome (enough_guests guests) (λ all. IsKept (record { host = host; guests = all }))
 enough-kept host guests fit =
     if_some-when (λ all. IsKept (record { host = host; guests = all })) (nat_le (length guests) 1) (Some (guests ++ replicate (1 - length guests) []))
@@ -145,4 +145,4 @@ enough-kept host guests fit =
 pub guests-kept : (value : Option Data) (host : List HostCommand) (guests : List (List Request)) → guests_of value ≡ Some guests → IsKept (record { host = host; guests = guests })
 guests-kept value host guests gives =
     subst (λ (found : Option (List (List Request))). IfSome found (λ all. IsKept (record { host = host; guests = all }))) gives
-    (if_some-then (AllByRecursion (AllByRecursion Fits)) (λ all. IsKept (record { host = host; guests = all })) (guests_at value) enough_guests (guests_at-fit value) (enough-kept host))
+    (if_some-then (AllByRecursion (AllByRecursion IsNumbered)) (λ all. IsKept (record { host = host; guests = all })) (guests_at value) enough_guests (guests_at-fit value) (enough-kept host))

@@ -4,7 +4,7 @@ use Rattle.std.proofs.lemmas.List.{length-set, map-set}
 use Rattle.std.proofs.lemmas.Option.{slice_get-map}
 use Rattle.std.specs.List.{AllByRecursion}
 use Rattle.std.specs.Option.{unwrap_or}
-use Rattle.nesc_requests.specs.Requests.{Fits}
+use Rattle.nesc_requests.specs.Requests.{IsNumbered}
 use Rattle.nesc_requests.specs.Script.{Script, requests_of}
 use Rattle.nesc_requests.specs.declared.host.HostCommand.{HostCommand}
 use Rattle.nesc_requests.specs.declared.request.Request.{Request}
@@ -25,11 +25,11 @@ set-at [] i x at = refl
 set-at (y ∷ xs) zero x at = let same : y ≡ x = cc in ap (λ z. z ∷ xs) (sym same)
 set-at (y ∷ xs) (suc i) x at = ap (λ zs. y ∷ zs) (set-at xs i x at)
 
-all-rest : (result : Option Request) (left : List Request) → AllByRecursion Fits (option_to_list result ++ left) → AllByRecursion Fits left
+all-rest : (result : Option Request) (left : List Request) → AllByRecursion IsNumbered (option_to_list result ++ left) → AllByRecursion IsNumbered left
 all-rest None left all = all
 all-rest (Some request) left all = all.1
 
-all-first : (result : Option Request) (left : List Request) → AllByRecursion Fits (option_to_list result ++ left) → IfSome result Fits
+all-first : (result : Option Request) (left : List Request) → AllByRecursion IsNumbered (option_to_list result ++ left) → IfSome result IsNumbered
 all-first None left all = tt
 all-first (Some request) left all = all.0
 
@@ -52,19 +52,19 @@ pub kept-after : {Q : Type 0} (items : Q → List Request) (host : List HostComm
 kept-after items host queues place new result taken kept =
     let long = length-set (map items queues) place (items new) in
     let at = at-place items queues place new result taken in
-    let fit : AllByRecursion (AllByRecursion Fits) (map items queues) = kept.fit in
+    let fit : AllByRecursion (AllByRecursion IsNumbered) (map items queues) = kept.fit in
     let few : length (map items queues) < 2 ^ 8 = kept.few in
     subst (λ (guests : List (List Request)). IsKept (record { host = host; guests = guests })) (sym (map-set items queues place new))
     (record {
-      fit = all-set (AllByRecursion Fits) (map items queues) place (items new) fit (all-rest result (items new) (all-at (AllByRecursion Fits) (map items queues) place _ fit at));
+      fit = all-set (AllByRecursion IsNumbered) (map items queues) place (items new) fit (all-rest result (items new) (all-at (AllByRecursion IsNumbered) (map items queues) place _ fit at));
       few = omega arith;
     })
 
 -- the request fits
 pub fits-next : {Q : Type 0} (items : Q → List Request) (host : List HostCommand) (queues : List Q) (place : ℕ) (new : Q) (result : Option Request) → IsTaken items queues place new result
-    → IsKept (left_in items host queues) → IfSome result Fits
+    → IsKept (left_in items host queues) → IfSome result IsNumbered
 fits-next items host queues place new result taken kept =
-    all-first result (items new) (all-at (AllByRecursion Fits) (map items queues) place _ kept.fit (at-place items queues place new result taken))
+    all-first result (items new) (all-at (AllByRecursion IsNumbered) (map items queues) place _ kept.fit (at-place items queues place new result taken))
 
 -- it was the guest's next
 takes-at : (script : Script) (f place : ℕ) (result : Option Request) (left : List Request) → f ≡ suc place → slice_get script.guests place ≡ Some (option_to_list result ++ left)

@@ -39,8 +39,8 @@ abbrev pub count_of : List ℕ → Option ℕ
 count_of text = number_from_one 64 text
 
 -- 1 to 64 blocks
-abbrev pub blocks_of : List (List ℕ) → Option (List Block)
-blocks_of texts = if nat_le 1 (length texts) && nat_le (length texts) 64 then each block_of_text texts else None
+abbrev pub read_blocks : List (List ℕ) → Option (List Block)
+read_blocks texts = if nat_le 1 (length texts) && nat_le (length texts) 64 then each block_of_text texts else None
 
 -- NAME LENGTH
 abbrev pub create_of : List (List ℕ) → Option HostCommand
@@ -55,7 +55,7 @@ abbrev pub put_of : List (List ℕ) → Option HostCommand
 put_of (name ∷ v ∷ blocks) = do
   name ← name_of name
   v ← number_to 1048575 v
-  blocks ← blocks_of blocks
+  blocks ← read_blocks blocks
   Some (Put name v blocks)
 put_of words = None
 
@@ -102,7 +102,7 @@ read_of words = None
 abbrev pub write_of : List (List ℕ) → Option Request
 write_of (v ∷ blocks) = do
   v ← number_to 1048575 v
-  blocks ← blocks_of blocks
+  blocks ← read_blocks blocks
   Some (Write v blocks)
 write_of words = None
 
@@ -134,7 +134,7 @@ blocks_in (Get name v into) = length into
 blocks_in (Attach f name) = 0
 
 abbrev pub blocks_in_all : Script → ℕ
-blocks_in_all script = sum_by blocks_in script.host + sum_by (sum_by requests.blocks_of) script.guests
+blocks_in_all script = sum_by blocks_in script.host + sum_by (sum_by requests.block_count) script.guests
 
 -- the script, if it does not have too many blocks
 abbrev pub enough_blocks : Script → Option Script

@@ -1,6 +1,6 @@
 ghost use Rattle.std.specs.Prelude.{◌≡◌, ◌≤◌, ◌∷◌, map, option_map, replicate, IfOk, IfErr, IfSome};
 ghost use Rattle.nesc_base.specs.Block.{zero_block};
-ghost use Rattle.script_lang.specs.CommandsText.{number_to, number_from_one, function_of, blocks_of, count_of, create_of, get_of, put_of, attach_of, read_of, write_of, command_of_words, request_of_words, host_command_of, request_of, is_trimmed};
+ghost use Rattle.script_lang.specs.CommandsText.{number_to, number_from_one, function_of, read_blocks, count_of, create_of, get_of, put_of, attach_of, read_of, write_of, command_of_words, request_of_words, host_command_of, request_of, is_trimmed};
 ghost use Rattle.script_lang.specs.Reads.{Reads};
 ghost use Rattle.script_lang.specs.Words.{words_of};
 ghost use Rattle.script_lang.specs.declared.words.Separators.TheVariants.{Spaces};
@@ -74,8 +74,8 @@ fn create_of(words: &[&[u8]]) -> Option<HostCommand>
 }
 
 /// The blocks of some texts, 1 to 64 of them.
-fn blocks_of(alloc: Global, texts: &[&[u8]]) -> Result<Blocks, InputFault>
-    ensures { Reads result (blocks_of (map (λ text. text.now) texts.now)) }
+fn read_blocks(alloc: Global, texts: &[&[u8]]) -> Result<Blocks, InputFault>
+    ensures { Reads result (read_blocks (map (λ text. text.now) texts.now)) }
 {
     if texts.is_empty() || texts.len() > MOST_IN_REQUEST as usize {
         return Err(InputFault::Refused);
@@ -96,7 +96,7 @@ fn put_of(alloc: Global, words: &[&[u8]]) -> Result<HostCommand, InputFault>
     };
     let name = Name::read(name).ok_or(InputFault::Refused)?;
     let v = first_of(v)?;
-    let blocks = blocks_of(alloc, texts)?;
+    let blocks = read_blocks(alloc, texts)?;
     Ok(HostCommand::Put { name, v, blocks })
 }
 
@@ -139,7 +139,7 @@ fn write_of(alloc: Global, words: &[&[u8]]) -> Result<Request, InputFault>
         return Err(InputFault::Refused);
     };
     let v = first_of(v)?;
-    let from = blocks_of(alloc, texts)?;
+    let from = read_blocks(alloc, texts)?;
     Ok(Request::Write { v, from })
 }
 

@@ -2,7 +2,7 @@ ghost use Rattle.std.specs.Prelude.{◌≡◌, ◌≤◌, ◌∷◌, [], ℕ, Li
 ghost use Rattle.std.specs.List.{sum_by};
 ghost use Rattle.toml.specs.Data.{array, get_member};
 ghost use Rattle.toml.specs.View.{view, items_view, table_view};
-ghost use Rattle.nesc_requests.specs.Requests.{Fits, blocks_of};
+ghost use Rattle.nesc_requests.specs.Requests.{IsNumbered, block_count};
 ghost use Rattle.nesc_requests.specs.Script.{Script, numbered, requests_of};
 ghost use Rattle.script_lang.specs.CommandsText.{IsCommandsText, blocks_in, blocks_in_all, each_at, each_of_items, enough_blocks, enough_guests, guests_at, guests_of, guests_of_items, has_known_keys, host_command_of, request_of, script_of, script_of_members};
 ghost use Rattle.script_lang.specs.Left.{Takes};
@@ -21,7 +21,7 @@ use std::marker::Model;
 use toml::{Table, Value};
 
 /// How many blocks the commands of a text may have, all together.
-const MOST_BLOCKS: u64 = 262_144;
+const MOST_NAMED_BLOCKS: u64 = 262_144;
 
 /// The commands of the host and the requests of the guests that are left.
 #[derive(Drop)]
@@ -71,7 +71,7 @@ impl Commands {
     /// Takes a guest's next request. `None` says that none is left.
     pub fn take_guest(&mut self, f: FnNo) -> Option<Request>
         ensures next { IfSome result (λ request. Takes self.old f.0 request self.new) }
-        ensures fits { IfSome result Fits }
+        ensures fits { IfSome result IsNumbered }
         ensures none { IfNone result ((requests_of self.old f.0 ≡ []) × (self.new ≡ self.old)) }
     {
         let queue = self.guests.get_mut(place_of(f)?)?;
@@ -125,7 +125,7 @@ fn blocks_of_host(commands: &VecDeque<HostCommand>) -> u64
 
 /// How many blocks the guests' requests have, up to the greatest number.
 fn blocks_of_guests(guests: &[VecDeque<Request>]) -> u64
-    ensures { result ≡ min (sum_by (sum_by blocks_of) (map (λ queue. queue.items) guests.now)) 18446744073709551615 }
+    ensures { result ≡ min (sum_by (sum_by block_count) (map (λ queue. queue.items) guests.now)) 18446744073709551615 }
 {
     let mut blocks = 0u64;
     for requests in guests.iter() {
@@ -136,7 +136,7 @@ fn blocks_of_guests(guests: &[VecDeque<Request>]) -> u64
 
 /// How many blocks a guest's requests have, up to the greatest number.
 fn blocks_of_guest(requests: &VecDeque<Request>) -> u64
-    ensures { result ≡ min (sum_by blocks_of requests.now.items) 18446744073709551615 }
+    ensures { result ≡ min (sum_by block_count requests.now.items) 18446744073709551615 }
 {
     let mut blocks = 0u64;
     for request in requests.iter() {
@@ -177,7 +177,7 @@ impl Spoken for HostCommand {
 impl Spoken for Request {
     ghost said = { request_of };
 
-    ghost blocks = { blocks_of };
+    ghost blocks = { block_count };
 
     fn read(alloc: Global, text: &[u8]) -> Result<Request, InputFault> {
         request_of(alloc, text)
@@ -206,7 +206,7 @@ fn read_all<C: Spoken>(alloc: Global, values: &[Value]) -> Result<VecDeque<C>, I
     for value in values {
         let item = read_one::<C>(alloc, value)?;
         blocks += u64::from(item.blocks());
-        if blocks > MOST_BLOCKS {
+        if blocks > MOST_NAMED_BLOCKS {
             return Err(InputFault::Refused);
         }
         items.push_back(item)?;
@@ -230,7 +230,7 @@ fn read_at<C: Spoken>(alloc: Global, value: Option<&Value>) -> Result<VecDeque<C
 fn read_guests(alloc: Global, values: &[Value]) -> Result<Vec<VecDeque<Request>>, InputFault>
     ensures read { IfOk result (λ guests. guests_of_items (items_view values.now) ≡ Some (map (λ queue. queue.items) guests.items)) }
     ensures few { IfOk result (λ guests. length guests.items ≤ most_functions) }
-    ensures refused { IsErrOf result InputFault.Refused → TooMany (sum_by (sum_by blocks_of)) (guests_of (Some (array (items_view values.now)))) }
+    ensures refused { IsErrOf result InputFault.Refused → TooMany (sum_by (sum_by block_count)) (guests_of (Some (array (items_view values.now)))) }
 {
     if values.len() > usize::from(MOST_FUNCTIONS) {
         return Err(InputFault::Refused);
@@ -250,7 +250,7 @@ fn read_guests_at(
 ) -> Result<Vec<VecDeque<Request>>, InputFault>
     ensures read { IfOk result (λ guests. guests_at (option_map (λ value. view value.now) value.entry) ≡ Some (map (λ queue. queue.items) guests.items)) }
     ensures few { IfOk result (λ guests. length guests.items ≤ most_functions) }
-    ensures refused { IsErrOf result InputFault.Refused → TooMany (sum_by (sum_by blocks_of)) (guests_of (option_map (λ value. view value.now) value.entry)) }
+    ensures refused { IsErrOf result InputFault.Refused → TooMany (sum_by (sum_by block_count)) (guests_of (option_map (λ value. view value.now) value.entry)) }
 {
     let Some(value) = value else {
         return Ok(Vec::new(alloc));
@@ -297,7 +297,7 @@ fn read_host(alloc: Global, table: &Table) -> Result<VecDeque<HostCommand>, Inpu
 /// The guests' requests of a table.
 fn read_each_guest(alloc: Global, table: &Table) -> Result<Vec<VecDeque<Request>>, InputFault>
     ensures read { IfOk result (λ guests. guests_of (get_member (codes "guest") (table_view table.now)) ≡ Some (map (λ queue. queue.items) guests.items)) }
-    ensures refused { IsErrOf result InputFault.Refused → TooMany (sum_by (sum_by blocks_of)) (guests_of (get_member (codes "guest") (table_view table.now))) }
+    ensures refused { IsErrOf result InputFault.Refused → TooMany (sum_by (sum_by block_count)) (guests_of (get_member (codes "guest") (table_view table.now))) }
 {
     let guests = read_guests_at(alloc, table.get("guest"))?;
     Ok(with_idle(alloc, guests)?)
@@ -308,7 +308,7 @@ fn enough_blocks(commands: Commands) -> Result<Commands, InputFault>
     ensures read { Reads result (enough_blocks commands) }
     ensures few { IfOk result (λ commands. blocks_in_all commands ≤ most_blocks) }
 {
-    if commands.blocks() > MOST_BLOCKS {
+    if commands.blocks() > MOST_NAMED_BLOCKS {
         return Err(InputFault::Refused);
     }
     Ok(commands)

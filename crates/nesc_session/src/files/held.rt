@@ -24,7 +24,7 @@ pub(crate) struct HeldBlocks {
 }
 
 impl Model for HeldBlocks {
-    ghost use Rattle.nesc_session.specs.HeldBlocks.{Held, held_code, blocks_of, IsWellKept};
+    ghost use Rattle.nesc_session.specs.HeldBlocks.{Held, held_code, blocks_at_places, IsWellKept};
     ghost use Rattle.std.specs.HashMap.{spare};
     ghost use Rattle.std.specs.Prelude.{vec_capacity};
 
@@ -32,7 +32,7 @@ impl Model for HeldBlocks {
 
     ghost coded = { held_code };
 
-    ghost view = { λ h. record { blocks = blocks_of h.indices.entries h.blocks.items; room = h.room } };
+    ghost view = { λ h. record { blocks = blocks_at_places h.indices.entries h.blocks.items; room = h.room } };
 
     ghost invariant = { λ h. IsWellKept h.indices.entries h.blocks.items h.room (spare h.indices) (vec_capacity h.blocks) };
 }
@@ -79,7 +79,7 @@ impl HeldBlocks {
         self.room -= 1;
     }
 
-    /// Writes a block at a place where one is held, and says whether one is.
+    /// WritesBlocks a block at a place where one is held, and says whether one is.
     pub fn replace(&mut self, place: Place, block: &Block) -> bool
         ensures held { result ≡ contains_key self.old.blocks place }
         ensures blocks { IsTrue result → self.new.blocks ≡ insert self.old.blocks place block.now }
@@ -93,7 +93,7 @@ impl HeldBlocks {
         true
     }
 
-    /// Writes a block at a place. Where none was held yet, one is now.
+    /// WritesBlocks a block at a place. Where none was held yet, one is now.
     pub fn put(&mut self, place: Place, block: &Block)
         requires { contains_key self.old.blocks place ≡ false → 0 < self.old.room }
         ensures blocks { self.new.blocks ≡ insert self.old.blocks place block.now }

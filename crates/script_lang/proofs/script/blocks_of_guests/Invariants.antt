@@ -1,8 +1,8 @@
 use Rattle.std.proofs.Common.{◌≡◌, map, min, take}
 use Rattle.std.specs.List.{sum_by}
-use Rattle.nesc_requests.specs.Requests.{blocks_of}
+use Rattle.nesc_requests.specs.Requests.{block_count}
 use Rattle.script_lang.proofs.script.blocks_of_guests.Given as goal
 
 -- the sum over the guests so far
 abbrev pub invariant-loop-requests : goal.invariant-loop-requests
-invariant-loop-requests l = l.blocks ≡ min (sum_by (sum_by blocks_of) (map (λ queue. queue.items) (take l.requests-index l.guests))) 18446744073709551615
+invariant-loop-requests l = l.blocks ≡ min (sum_by (sum_by block_count) (map (λ queue. queue.items) (take l.requests-index l.guests))) 18446744073709551615

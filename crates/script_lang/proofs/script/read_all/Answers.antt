@@ -23,11 +23,11 @@ loop-value-preserved g c =
     rw c.in_ok-push_back.ensures.items (record {
       read = sym more ∙ c.loop-value.invariant.read;
       counted = omega arith;
-      few = omega (arith, c.if-blocks-gt-MOST_BLOCKS.false);
+      few = omega (arith, c.if-blocks-gt-MOST_NAMED_BLOCKS.false);
     })
 
-pub returns-then-blocks-gt-MOST_BLOCKS-clause-refused : goal.returns-then-blocks-gt-MOST_BLOCKS-clause-refused
-returns-then-blocks-gt-MOST_BLOCKS-clause-refused g c refused =
+pub returns-then-blocks-gt-MOST_NAMED_BLOCKS-clause-refused : goal.returns-then-blocks-gt-MOST_NAMED_BLOCKS-clause-refused
+returns-then-blocks-gt-MOST_NAMED_BLOCKS-clause-refused g c refused =
     let said = g.C.Spoken.said in
     let values = c.args.values.now in
     let i = c.loop-value.value-index in
@@ -37,7 +37,7 @@ returns-then-blocks-gt-MOST_BLOCKS-clause-refused g c refused =
     let sum = sum_by_push g.C.Spoken.blocks done item in
     let count = c.loop-value.invariant.counted in
     let one = c.blocks-in-loop-value.ensures in
-    let many : most_blocks < sum_by g.C.Spoken.blocks (done ++ item ∷ []) = omega (arith, c.if-blocks-gt-MOST_BLOCKS.true) in
+    let many : most_blocks < sum_by g.C.Spoken.blocks (done ++ item ∷ []) = omega (arith, c.if-blocks-gt-MOST_NAMED_BLOCKS.true) in
     subst (TooMany (sum_by g.C.Spoken.blocks)) (sym more ∙ c.loop-value.invariant.read) (done-too_many g.C.Spoken.blocks (done ++ item ∷ []) (each_of_items said (items_view (drop (i + 1) values))) many)
 
 pub returns-clause-read : goal.returns-clause-read

@@ -1,7 +1,7 @@
 use Rattle.std.proofs.Common.{not, is_some, sym, ap, ◌∙◌, arith}
 use Rattle.nesc_session.proofs.Numbered.{holds-now, has_entry}
 use Rattle.nesc_session.proofs.Standing.{stands-length}
-use Rattle.nesc_session.proofs.Written.{Writes-insert, filed-insert}
+use Rattle.nesc_session.proofs.Written.{WritesBlocks-insert, filed-insert}
 use Rattle.nesc_session.proofs.files.Files.hold_one.Goals as goal
 
 pub returns-then-contains-clause-fresh : goal.returns-then-contains-clause-fresh
@@ -25,4 +25,4 @@ returns-clause-fresh c = ap not (c.if-contains.ensures ∙ sym (holds-now _ _ c.
 pub returns-clause-zeros : goal.returns-clause-zeros
 returns-clause-zeros c fresh =
     let stands = ap is_some (stands-length c.args.self.now.files c.args.file.0 c.args.v c.requires.below) in
-    rw (← c.zero.ensures, c.hold.ensures.blocks) (Writes-insert c.self.inside.held.blocks c.self.inside.table c.args.file.0 c.args.v c.zero.result c.self.view_is stands)
+    rw (← c.zero.ensures, c.hold.ensures.blocks) (WritesBlocks-insert c.self.inside.held.blocks c.self.inside.table c.args.file.0 c.args.v c.zero.result c.self.view_is stands)

@@ -1,5 +1,5 @@
 use Rattle.nesc_session.proofs.Numbered.{has_entry}
-use Rattle.nesc_session.proofs.Written.{filed-insert, Writes-insert}
+use Rattle.nesc_session.proofs.Written.{filed-insert, WritesBlocks-insert}
 use Rattle.nesc_session.proofs.files.Files.write.Goals as goal
 
 pub invariant_of-self : goal.invariant_of-self
@@ -8,4 +8,4 @@ invariant_of-self c = record {
 }
 
 pub returns-clause-blocks : goal.returns-clause-blocks
-returns-clause-blocks c = rw c.put.ensures.blocks (Writes-insert c.self.inside.held.blocks c.self.inside.table c.args.file.0 c.args.v c.args.block.now c.self.view_is c.requires.stands)
+returns-clause-blocks c = rw c.put.ensures.blocks (WritesBlocks-insert c.self.inside.held.blocks c.self.inside.table c.args.file.0 c.args.v c.args.block.now c.self.view_is c.requires.stands)

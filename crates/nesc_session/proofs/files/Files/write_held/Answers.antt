@@ -7,9 +7,9 @@ use Rattle.nesc_session.specs.Room.{KeepsHeld}
 use Rattle.nesc_session.specs.FilesInMemory.{entry_at, files_of}
 use Rattle.nesc_session.proofs.KeepsHeld.{KeepsHeld-Changes, KeepsHeld-same}
 use Rattle.nesc_session.proofs.Numbered.{holds-now, has_entry}
-use Rattle.nesc_session.proofs.Puts.{Puts-Writes}
+use Rattle.nesc_session.proofs.Puts.{Puts-WritesBlocks}
 use Rattle.nesc_session.proofs.Standing.{stands-holds}
-use Rattle.nesc_session.proofs.Written.{Writes-insert, filed-insert}
+use Rattle.nesc_session.proofs.Written.{WritesBlocks-insert, filed-insert}
 use Rattle.nesc_session.proofs.files.Files.write_held.Goals as goal
 
 pub returns-clause-held : goal.returns-clause-held
@@ -30,7 +30,7 @@ pub returns-clause-written : goal.returns-clause-written
 returns-clause-written c held =
     let holds = sym (returns-clause-held c) ∙ held in
     let stands = ap is_some (stands-holds c.args.self.now.files c.args.file.0 c.args.v holds) in
-    Puts-Writes holds (rw (c.replace.ensures.blocks held) (Writes-insert c.self.inside.held.blocks c.self.inside.table c.args.file.0 c.args.v c.args.block.now c.self.view_is stands))
+    Puts-WritesBlocks holds (rw (c.replace.ensures.blocks held) (WritesBlocks-insert c.self.inside.held.blocks c.self.inside.table c.args.file.0 c.args.v c.args.block.now c.self.view_is stands))
 
 pub returns-clause-keeps : goal.returns-clause-keeps
 returns-clause-keeps c = at c.replace.result refl

@@ -1,5 +1,5 @@
 use Rattle.std.proofs.Common.{◌≡◌, ◌+◌, ◌-◌, ◌<◌, ◌∷◌, length, drop, None, Some, refl, sym, ap, ◌∙◌, arith, length-drop}
-use Rattle.nesc_requests.specs.Requests.{blocks_of, first_of}
+use Rattle.nesc_requests.specs.Requests.{block_count, first_of}
 use Rattle.nesc_requests.specs.declared.request.Kind.TheVariants.{Unmapped}
 use Rattle.file_model.specs.Functions.{Attached, Function}
 use Rattle.nesc_session.specs.Serving.{ReachesNext}
@@ -29,8 +29,8 @@ returns-in_default-clause-serves c =
     let reached : ReachesNext c.args.files.now.files c.unwrap-file.result.0 c.self.inside.done c.unwrap-head.result.request None c.reach.new.request c.reach.new.files.files = c.in_default.ensures.reaches in
     let same : c.try_push_front.new.self.items ≡ queue =
     ap (λ b. b.items) full ∙ (λ i. (record c.unwrap-head.result { request = reached.2 i }) ∷ (c.pop_front.ensures.items i).items) ∙ sym split in
-    let is : c.miss-miss.result ≡ record { v = first_of c.unwrap-head.result.request + c.self.inside.done; n = blocks_of c.unwrap-head.result.request - c.self.inside.done; kind = Unmapped } =
-    c.miss-miss.ensures ∙ (λ i. record { v = c.first.ensures i + c.self.inside.done; n = blocks_of (reached.2 i) - c.self.inside.done; kind = Unmapped }) in
+    let is : c.miss-miss.result ≡ record { v = first_of c.unwrap-head.result.request + c.self.inside.done; n = block_count c.unwrap-head.result.request - c.self.inside.done; kind = Unmapped } =
+    c.miss-miss.ensures ∙ (λ i. record { v = c.first.ensures i + c.self.inside.done; n = block_count (reached.2 i) - c.self.inside.done; kind = Unmapped }) in
     rw (← c.self.view_is, c.told.ensures, same, c.unwrap-file.ensures)
     (ServesFunction-missed c.args.f old attached c.unwrap-head.result (drop 1 queue) refl split c.args.files.now.files (rw c.length.ensures at below) c.miss-miss.result is c.reach.new.request c.reach.new.files.files reached)
 

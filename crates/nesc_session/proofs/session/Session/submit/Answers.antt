@@ -8,7 +8,7 @@ use Rattle.nesc_session.specs.Room.{room_for_script, room_to_write}
 use Rattle.nesc_session.specs.Session.{state_of}
 use Rattle.nesc_session.proofs.Items.{attached_of-item, attached_of-none, none_from, same-item}
 use Rattle.nesc_session.proofs.RoomLemmas.{guests-take, room_of-queued, sum-changes}
-use Rattle.nesc_session.proofs.SessionLemmas.{HasNext-some, IsFull-item, Queues-item, none-left}
+use Rattle.nesc_session.proofs.SessionLemmas.{HasNext-some, IsQueueFull-item, Queues-item, none-left}
 use Rattle.nesc_session.proofs.session.Session.submit.Goals as goal
 
 pub returns-then-not-has_next-clause-step : goal.returns-then-not-has_next-clause-step
@@ -31,7 +31,7 @@ returns-then-is_full-clause-step c kept =
     let within = subst (λ all. c.in-Some.index < length all) c.deref.ensures.value c.in-Some.ensures.0 in
     let same = same-item c.args.self.now.functions.items c.in-Some.index c.index.result.now c.index-2.result.now within c.index.ensures c.index-2.ensures in
     let some = ap (λ (function : Function). is_none function.attached) (sym same) ∙ sym c.if-is_off.ensures in
-    (HasNext-some state c.args.f.0 c.if-not-has_next.ensures, IsFull-item state c.args.f.0 c.in-Some.index c.index-2.result.now c.in-Some.ensures.1 within c.index-2.ensures some c.if-is_full.ensures, refl)
+    (HasNext-some state c.args.f.0 c.if-not-has_next.ensures, IsQueueFull-item state c.args.f.0 c.in-Some.index c.index-2.result.now c.in-Some.ensures.1 within c.index-2.ensures some c.if-is_full.ensures, refl)
 
 pub returns-in-Some-take_guest-clause-step : goal.returns-in-Some-take_guest-clause-step
 returns-in-Some-take_guest-clause-step c kept =

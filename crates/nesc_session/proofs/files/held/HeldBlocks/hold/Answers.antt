@@ -3,7 +3,7 @@ use Rattle.std.specs.HashMap.{spare}
 use Rattle.std.specs.FinMap.{insert}
 use Rattle.nesc_session.specs.declared.files.held.Place.{Place}
 use Rattle.nesc_session.specs.HeldBlocks.{index_at, is_same_place}
-use Rattle.nesc_session.proofs.Placed.{on_ok_then, blocks_of-hold, IsWellKept-hold}
+use Rattle.nesc_session.proofs.Placed.{on_ok_then, blocks_at_places-hold, IsWellKept-hold}
 use Rattle.nesc_session.proofs.files.held.HeldBlocks.hold.Goals as goal
 
 -- where each place's block is, after the map has the new one
@@ -20,5 +20,5 @@ invariant_of-self c =
 
 pub returns-clause-blocks : goal.returns-clause-blocks
 returns-clause-blocks c =
-    rw c.push_reserved.ensures.items (blocks_of-hold _ _ c.args.place c.args.block.now c.self.invariant.within _ (placed c))
+    rw c.push_reserved.ensures.items (blocks_at_places-hold _ _ c.args.place c.args.block.now c.self.invariant.within _ (placed c))
     ∙ ap (λ h. insert h.blocks c.args.place c.args.block.now) c.self.view_is

@@ -1,6 +1,6 @@
 use Rattle.std.proofs.Common.{is_some, sym, ap, ◌∙◌, arith}
 use Rattle.std.specs.FinMap.{insert}
-use Rattle.nesc_session.proofs.Placed.{contains_key-held, blocks_of-put}
+use Rattle.nesc_session.proofs.Placed.{contains_key-held, blocks_at_places-put}
 use Rattle.nesc_session.proofs.files.held.HeldBlocks.replace.Goals as goal
 
 pub returns-in_default-clause-held : goal.returns-in_default-clause-held
@@ -16,5 +16,5 @@ returns-clause-held c = sym (contains_key-held _ _ c.self.view_is c.args.place �
 pub returns-clause-blocks : goal.returns-clause-blocks
 returns-clause-blocks c held =
     let here = sym c.get.ensures.value ∙ sym c.in-Some.ensures in
-    blocks_of-put _ _ c.args.place c.args.block.now c.self.invariant.apart c.in-Some.index (c.self.invariant.within _ _ here) here
+    blocks_at_places-put _ _ c.args.place c.args.block.now c.self.invariant.apart c.in-Some.index (c.self.invariant.within _ _ here) here
     ∙ ap (λ h. insert h.blocks c.args.place c.args.block.now) c.self.view_is

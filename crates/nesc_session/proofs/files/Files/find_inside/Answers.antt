@@ -1,6 +1,6 @@
 use Rattle.std.proofs.lemmas.Option.{MatchOption-at_some}
 use Rattle.nesc_session.proofs.Ranges.{IsInside-below, IsOutside-below}
-use Rattle.nesc_session.proofs.files.Files.reach.Goals as goal
+use Rattle.nesc_session.proofs.files.Files.find_inside.Goals as goal
 
 pub returns-then-not-has_blocks-clause-refused : goal.returns-then-not-has_blocks-clause-refused
 returns-then-not-has_blocks-clause-refused c =

@@ -2,7 +2,7 @@ use Rattle.std.proofs.Common.{◌≡◌, drop, length, map, take}
 use Rattle.nesc_base.specs.BlockText.{block_of_text}
 use Rattle.script_lang.specs.Words.{each}
 use Rattle.script_lang.proofs.EachLemmas.{onto}
-use Rattle.script_lang.proofs.commands.blocks_of.Given as goal
+use Rattle.script_lang.proofs.commands.read_blocks.Given as goal
 
 -- the blocks so far and those of the texts that are left are those of all texts
 abbrev pub invariant-loop-k : goal.invariant-loop-k

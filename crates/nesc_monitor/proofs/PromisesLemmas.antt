@@ -1,0 +1,409 @@
+-- What is promised of a call follows from what the command came to.
+use Rattle.std.proofs.Common.{◌≡◌, ⊎_elim, inl, inr, ◌↔◌, ◌<◌, ◌≤◌, List, ℕ, Option, Some, None, sym, ◌∙◌, ap, refl, subst, arith}
+use Rattle.std.proofs.lemmas.Option.{none-some}
+use Rattle.nesc_base.specs.declared.geometry.Geometry.{Geometry}
+use Rattle.nesc_base.specs.Disk.{Goes, Known}
+use Rattle.nesc_base.specs.Files.{Files}
+use Rattle.nesc_base.specs.Geometry.{total}
+use Rattle.image_layout.specs.declared.fault.ImageFault.{ImageFault}
+use Rattle.image_layout.specs.declared.fault.ImageFault.TheVariants.{BadSuper, BadSize, BadList, BadTable, BadOwner, TwiceOwned}
+use Rattle.image_opening.proofs.PartsLemmas.{turned_down_once}
+use Rattle.nesc_monitor.specs.Call.{AreKnownAccepted, AreReadWell, Call, IsKnownRefused, OpensKnown}
+use Rattle.nesc_monitor.specs.Endings.{AtAnyMoment, Comes, IsCarriedOut, IsEarly, IsImageRefused, IsInputRefused, IsOfMake, IsOfTexts, IsPastTexts, error_line, status_of}
+use Rattle.nesc_monitor.specs.Making.{ComesOfMake}
+use Rattle.nesc_monitor.specs.Promises.{EveryCommand, OfMake, OfNoCommand, OfRun, OfRunReadWell}
+use Rattle.nesc_monitor.specs.Reading.{GivesTooMany, GivesWhole, Tells}
+use Rattle.nesc_monitor.specs.Running.{ComesOfRun}
+use Rattle.nesc_monitor.specs.Starting.{StartsFrom}
+use Rattle.nesc_monitor.specs.Texts.{AreCommands, AreTaken, HasOneFailed, IsInTurn, IsSchedule, IsTakenFromFront, SaysNoScript, SaysNoWords}
+use Rattle.nesc_monitor.specs.Watched.{DiskNeverFell, HasBegun, HasDiskFailed, HasDiskWorked, HasFailed, HasTaken, HasTakenNothing, HasWorked, IsDiskUntouched, IsOnlyRead, NeverFell}
+use Rattle.nesc_monitor.specs.Words.{command_of}
+use Rattle.nesc_monitor.specs.declared.ending.Ending.{Ending}
+use Rattle.nesc_monitor.specs.declared.ending.Ending.TheVariants.{Done, Words, Memory, Commands, Schedule, Image, Device, Read, Write}
+use Rattle.nesc_monitor.specs.declared.ending.Status.TheVariants as status
+use Rattle.nesc_monitor.specs.declared.words.Command.{Command}
+use Rattle.nesc_monitor.specs.declared.words.Command.TheVariants.{Run, Make}
+
+-- The endings of a status
+
+ending_done : (ending : Ending) → status_of ending ≡ status.Done → ending ≡ Done
+ending_done Done is = refl
+ending_done Words is = cc
+ending_done Memory is = cc
+ending_done Commands is = cc
+ending_done Schedule is = cc
+ending_done (Image fault) is = cc
+ending_done Device is = cc
+ending_done Read is = cc
+ending_done Write is = cc
+
+ending_words : (ending : Ending) → status_of ending ≡ status.Words → ending ≡ Words
+ending_words Done is = cc
+ending_words Words is = refl
+ending_words Memory is = cc
+ending_words Commands is = cc
+ending_words Schedule is = cc
+ending_words (Image fault) is = cc
+ending_words Device is = cc
+ending_words Read is = cc
+ending_words Write is = cc
+
+ending_device : (ending : Ending) → status_of ending ≡ status.Device → ending ≡ Device
+ending_device Done is = cc
+ending_device Words is = cc
+ending_device Memory is = cc
+ending_device Commands is = cc
+ending_device Schedule is = cc
+ending_device (Image fault) is = cc
+ending_device Device is = refl
+ending_device Read is = cc
+ending_device Write is = cc
+
+ending_read : (ending : Ending) → status_of ending ≡ status.Read → ending ≡ Read
+ending_read Done is = cc
+ending_read Words is = cc
+ending_read Memory is = cc
+ending_read Commands is = cc
+ending_read Schedule is = cc
+ending_read (Image fault) is = cc
+ending_read Device is = cc
+ending_read Read is = refl
+ending_read Write is = cc
+
+ending_write : (ending : Ending) → status_of ending ≡ status.Write → ending ≡ Write
+ending_write Done is = cc
+ending_write Words is = cc
+ending_write Memory is = cc
+ending_write Commands is = cc
+ending_write Schedule is = cc
+ending_write (Image fault) is = cc
+ending_write Device is = cc
+ending_write Read is = cc
+ending_write Write is = refl
+
+ending_image : (ending : Ending) → status_of ending ≡ status.Image → (fault : ImageFault) × (ending ≡ Image fault)
+ending_image Done is = cc
+ending_image Words is = cc
+ending_image Memory is = cc
+ending_image Commands is = cc
+ending_image Schedule is = cc
+ending_image (Image fault) is = (fault, refl)
+ending_image Device is = cc
+ending_image Read is = cc
+ending_image Write is = cc
+
+-- Texts
+
+commands_clash : (before : Option (List ℕ)) → Tells before → AreCommands before → SaysNoScript before → ⊥
+commands_clash None known accepted none = known
+commands_clash (Some text) known accepted none = none accepted.0 accepted.1
+
+schedule_clash : (before : Option (List ℕ)) → Tells before → IsSchedule before → SaysNoWords before → ⊥
+schedule_clash None known accepted none = known
+schedule_clash (Some text) known accepted none = none-some _ (sym none ∙ accepted.1)
+
+long_clash : (before after : Option (List ℕ)) → Tells before → GivesTooMany before → GivesWhole before after → ⊥
+long_clash None after known long whole = known
+long_clash (Some bytes) after known long whole = omega (arith, long, whole.0)
+
+-- an image that is turned down was not opened
+image_clash : (disk : Known) (files : Files) → StartsFrom disk files → IsKnownRefused disk → ⊥
+image_clash disk files starts down = (turned_down_once disk.contents down.fault down.refused).0 files (starts.opens down.known)
+
+module _ (call : Call) where
+  -- The command `run`
+
+  abbrev Ran : Ending → Type 0
+  Ran ending = ComesOfRun ending call.commands call.schedule call.image call.out
+
+  in_turn : (ending : Ending) → Ran ending → IsInTurn call.commands call.schedule
+  in_turn Done runs = inr runs.0.commands_read
+  in_turn Words runs = absurd runs.0
+  in_turn Memory runs = runs.0
+  in_turn Commands runs = ⊎_elim (λ long. inl long.1) (λ whole. inr whole.0) runs.0.found
+  in_turn Schedule runs = inr runs.0.commands_read
+  in_turn (Image fault) runs = inr runs.0.commands_read
+  in_turn Device runs = inr runs.0.commands_read
+  in_turn Read runs = ⊎_elim (λ failed. inl failed.1) (λ whole. inr whole.0) runs.0
+  in_turn Write runs = inr runs.0.commands_read
+
+  taken : (ending : Ending) → Ran ending → IsPastTexts (status_of ending) → AreTaken call.commands call.schedule
+  taken Done runs past = runs.0
+  taken Words runs past = absurd past
+  taken Memory runs past = absurd past
+  taken Commands runs past = absurd past
+  taken Schedule runs past = absurd past
+  taken (Image fault) runs past = runs.0
+  taken Device runs past = runs.0
+  taken Read runs past = absurd past
+  taken Write runs past = runs.0
+
+  untouched : (ending : Ending) → Ran ending → IsOfTexts (status_of ending) → IsDiskUntouched call.image
+  untouched Done runs early = absurd early
+  untouched Words runs early = absurd early
+  untouched Memory runs early = absurd early
+  untouched Commands runs early = runs.1
+  untouched Schedule runs early = runs.1
+  untouched (Image fault) runs early = absurd early
+  untouched Device runs early = absurd early
+  untouched Read runs early = runs.1
+  untouched Write runs early = absurd early
+
+  runs_early : (ending : Ending) → Ran ending → IsEarly (status_of ending) → HasTakenNothing call.out
+  runs_early Done runs early = absurd early
+  runs_early Words runs early = runs.2
+  runs_early Memory runs early = runs.1
+  runs_early Commands runs early = runs.2
+  runs_early Schedule runs early = runs.2
+  runs_early (Image fault) runs early = runs.2
+  runs_early Device runs early = runs.2
+  runs_early Read runs early = runs.2
+  runs_early Write runs early = absurd early
+
+  carried_out : (ending : Ending) → Ran ending → AreKnownAccepted call → AreReadWell call → OpensKnown call.image.before → HasDiskWorked call.image → HasWorked call.out → IsCarriedOut (status_of ending) call.out
+  carried_out Done runs texts well opens disk out = tt
+  carried_out Words runs texts well opens disk out = absurd runs.0
+  carried_out Memory runs texts well opens disk out = runs.1
+  carried_out Commands runs texts well opens disk out = absurd (commands_clash call.commands.before texts.commands_known texts.commands runs.0.refused)
+  carried_out Schedule runs texts well opens disk out = absurd (schedule_clash call.schedule.before texts.schedule_known texts.schedule runs.0.refused)
+  carried_out (Image fault) runs texts well opens disk out = absurd ((turned_down_once call.image.before.contents fault (runs.1 opens.known)).0 opens.files opens.opens)
+  carried_out Device runs texts well opens disk out = absurd (disk runs.1)
+  carried_out Read runs texts well opens disk out = absurd (⊎_elim (λ failed. well.commands failed.0) (λ whole. well.schedule whole.1) runs.0)
+  carried_out Write runs texts well opens disk out = absurd (out runs.1)
+
+  image_refused : (ending : Ending) → Ran ending → AreKnownAccepted call → AreReadWell call → IsKnownRefused call.image.before → HasDiskWorked call.image → IsImageRefused (status_of ending)
+  image_refused Done runs texts well down disk = absurd (image_clash call.image.before runs.1.files runs.1.image_opens down)
+  image_refused Words runs texts well down disk = absurd runs.0
+  image_refused Memory runs texts well down disk = tt
+  image_refused Commands runs texts well down disk = absurd (commands_clash call.commands.before texts.commands_known texts.commands runs.0.refused)
+  image_refused Schedule runs texts well down disk = absurd (schedule_clash call.schedule.before texts.schedule_known texts.schedule runs.0.refused)
+  image_refused (Image fault) runs texts well down disk = tt
+  image_refused Device runs texts well down disk = absurd (disk runs.1)
+  image_refused Read runs texts well down disk = absurd (⊎_elim (λ failed. well.commands failed.0) (λ whole. well.schedule whole.1) runs.0)
+  image_refused Write runs texts well down disk = absurd (image_clash call.image.before runs.2.files runs.2.image_opens down)
+
+  commands_refused : (ending : Ending) → Ran ending → Tells call.commands.before → SaysNoScript call.commands.before → AreReadWell call → IsInputRefused (status_of ending)
+  commands_refused Done runs known none well = absurd (commands_clash call.commands.before known runs.0.commands_accepted none)
+  commands_refused Words runs known none well = absurd runs.0
+  commands_refused Memory runs known none well = tt
+  commands_refused Commands runs known none well = tt
+  commands_refused Schedule runs known none well = tt
+  commands_refused (Image fault) runs known none well = absurd (commands_clash call.commands.before known runs.0.commands_accepted none)
+  commands_refused Device runs known none well = absurd (commands_clash call.commands.before known runs.0.commands_accepted none)
+  commands_refused Read runs known none well = absurd (⊎_elim (λ failed. well.commands failed.0) (λ whole. well.schedule whole.1) runs.0)
+  commands_refused Write runs known none well = absurd (commands_clash call.commands.before known runs.0.commands_accepted none)
+
+  schedule_refused : (ending : Ending) → Ran ending → Tells call.schedule.before → SaysNoWords call.schedule.before → AreReadWell call → IsInputRefused (status_of ending)
+  schedule_refused Done runs known none well = absurd (schedule_clash call.schedule.before known runs.0.schedule_accepted none)
+  schedule_refused Words runs known none well = absurd runs.0
+  schedule_refused Memory runs known none well = tt
+  schedule_refused Commands runs known none well = tt
+  schedule_refused Schedule runs known none well = tt
+  schedule_refused (Image fault) runs known none well = absurd (schedule_clash call.schedule.before known runs.0.schedule_accepted none)
+  schedule_refused Device runs known none well = absurd (schedule_clash call.schedule.before known runs.0.schedule_accepted none)
+  schedule_refused Read runs known none well = absurd (⊎_elim (λ failed. well.commands failed.0) (λ whole. well.schedule whole.1) runs.0)
+  schedule_refused Write runs known none well = absurd (schedule_clash call.schedule.before known runs.0.schedule_accepted none)
+
+  -- The command `make`
+
+  abbrev Made : Geometry → Ending → Type 0
+  Made geometry ending = ComesOfMake ending geometry call.image.before call.image.after call.out
+
+  of_make : (ending : Ending) (geometry : Geometry) → Made geometry ending → IsOfMake (status_of ending)
+  of_make Done geometry makes = tt
+  of_make Words geometry makes = absurd makes
+  of_make Memory geometry makes = absurd makes
+  of_make Commands geometry makes = absurd makes
+  of_make Schedule geometry makes = absurd makes
+  of_make (Image fault) geometry makes = tt
+  of_make Device geometry makes = tt
+  of_make Read geometry makes = absurd makes
+  of_make Write geometry makes = tt
+
+  of_small : (ending : Ending) (geometry : Geometry) → Made geometry ending → call.image.before.size < total geometry → status_of ending ≡ status.Image
+  of_small Done geometry makes small = absurd (omega (arith, small, makes.0.enough))
+  of_small Words geometry makes small = absurd makes
+  of_small Memory geometry makes small = absurd makes
+  of_small Commands geometry makes small = absurd makes
+  of_small Schedule geometry makes small = absurd makes
+  of_small (Image fault) geometry makes small = refl
+  of_small Device geometry makes small = absurd (omega (arith, small, makes.0))
+  of_small Read geometry makes small = absurd makes
+  of_small Write geometry makes small = absurd (omega (arith, small, makes.0.enough))
+
+  is_small : (geometry : Geometry) (fault : ImageFault) → Made geometry (Image fault) → call.image.before.size < total geometry
+  is_small geometry (BadSuper block) makes = absurd makes
+  is_small geometry (BadSize block) makes = makes.0
+  is_small geometry (BadList block) makes = absurd makes
+  is_small geometry (BadTable block) makes = absurd makes
+  is_small geometry (BadOwner block) makes = absurd makes
+  is_small geometry (TwiceOwned file v) makes = absurd makes
+
+  small_told : (geometry : Geometry) (fault : ImageFault) → Made geometry (Image fault) → fault ≡ BadSize call.image.before.size
+  small_told geometry (BadSuper block) makes = absurd makes
+  small_told geometry (BadSize block) makes = ap BadSize makes.1
+  small_told geometry (BadList block) makes = absurd makes
+  small_told geometry (BadTable block) makes = absurd makes
+  small_told geometry (BadOwner block) makes = absurd makes
+  small_told geometry (TwiceOwned file v) makes = absurd makes
+
+  small_only_read : (geometry : Geometry) (fault : ImageFault) → Made geometry (Image fault) → IsOnlyRead call.image
+  small_only_read geometry (BadSuper block) makes = absurd makes
+  small_only_read geometry (BadSize block) makes = makes.2
+  small_only_read geometry (BadList block) makes = absurd makes
+  small_only_read geometry (BadTable block) makes = absurd makes
+  small_only_read geometry (BadOwner block) makes = absurd makes
+  small_only_read geometry (TwiceOwned file v) makes = absurd makes
+
+  small_silent : (geometry : Geometry) (fault : ImageFault) → Made geometry (Image fault) → HasTakenNothing call.out
+  small_silent geometry (BadSuper block) makes = absurd makes
+  small_silent geometry (BadSize block) makes = makes.3
+  small_silent geometry (BadList block) makes = absurd makes
+  small_silent geometry (BadTable block) makes = absurd makes
+  small_silent geometry (BadOwner block) makes = absurd makes
+  small_silent geometry (TwiceOwned file v) makes = absurd makes
+
+  made_out : (ending : Ending) (geometry : Geometry) → Made geometry ending → total geometry ≤ call.image.before.size → HasDiskWorked call.image → HasWorked call.out
+      → status_of ending ≡ status.Done
+  made_out Done geometry makes enough disk out = refl
+  made_out Words geometry makes enough disk out = absurd makes
+  made_out Memory geometry makes enough disk out = absurd makes
+  made_out Commands geometry makes enough disk out = absurd makes
+  made_out Schedule geometry makes enough disk out = absurd makes
+  made_out (Image fault) geometry makes enough disk out = absurd (omega (arith, enough, is_small geometry fault makes))
+  made_out Device geometry makes enough disk out = absurd (disk makes.1)
+  made_out Read geometry makes enough disk out = absurd makes
+  made_out Write geometry makes enough disk out = absurd (out makes.1)
+
+  makes_early : (ending : Ending) (geometry : Geometry) → Made geometry ending → IsEarly (status_of ending) → HasTakenNothing call.out
+  makes_early Done geometry makes early = absurd early
+  makes_early Words geometry makes early = absurd makes
+  makes_early Memory geometry makes early = absurd makes
+  makes_early Commands geometry makes early = absurd makes
+  makes_early Schedule geometry makes early = absurd makes
+  makes_early (Image fault) geometry makes early = small_silent geometry fault makes
+  makes_early Device geometry makes early = makes.2
+  makes_early Read geometry makes early = absurd makes
+  makes_early Write geometry makes early = absurd early
+
+  module _ (ending : Ending) where
+    -- Whatever the command is
+
+    abbrev Said : Option Command → Type 0
+    Said command = Comes ending command call.commands call.schedule call.image call.out
+
+    abbrev Moment : Option Command → Type 0
+    Moment command = AtAnyMoment command call.image.before call.image.after
+
+    Comes-words : (command : Option Command) → Said command → (status_of ending ≡ status.Words) ↔ (command ≡ None)
+    Comes-words None comes = ((λ is. refl), (λ is. ap status_of comes.0))
+    Comes-words (Some Run) comes = ((λ is. absurd (subst Ran (ending_words ending is) comes.0).0), (λ is. absurd (none-some _ (sym is))))
+    Comes-words (Some (Make geometry)) comes = ((λ is. absurd (subst (Made geometry) (ending_words ending is) comes.2)), (λ is. absurd (none-some _ (sym is))))
+
+    Comes-early : (command : Option Command) → Said command → IsEarly (status_of ending) → HasTakenNothing call.out
+    Comes-early None comes early = comes.5.bytes
+    Comes-early (Some Run) comes early = runs_early ending comes.0 early
+    Comes-early (Some (Make geometry)) comes early = makes_early ending geometry comes.2 early
+
+    Comes-device : (command : Option Command) → Said command → status_of ending ≡ status.Device → HasDiskFailed call.image
+    Comes-device None comes is = absurd (let h = sym (ap status_of comes.0) ∙ is in cc)
+    Comes-device (Some Run) comes is = (subst Ran (ending_device ending is) comes.0).1
+    Comes-device (Some (Make geometry)) comes is = (subst (Made geometry) (ending_device ending is) comes.2).1
+
+    Comes-read : (command : Option Command) → Said command → status_of ending ≡ status.Read → HasOneFailed call.commands call.schedule
+    Comes-read None comes is = absurd (let h = sym (ap status_of comes.0) ∙ is in cc)
+    Comes-read (Some Run) comes is = (subst Ran (ending_read ending is) comes.0).0
+    Comes-read (Some (Make geometry)) comes is = absurd (subst (Made geometry) (ending_read ending is) comes.2)
+
+    Comes-write : (command : Option Command) → Said command → status_of ending ≡ status.Write → HasFailed call.out
+    Comes-write None comes is = absurd (let h = sym (ap status_of comes.0) ∙ is in cc)
+    Comes-write (Some Run) comes is = (subst Ran (ending_write ending is) comes.0).1
+    Comes-write (Some (Make geometry)) comes is = (subst (Made geometry) (ending_write ending is) comes.2).1
+
+    pub EveryCommand-comes : Said (command_of call.words) → (HasWorked call.err → HasTaken (error_line ending) call.err) → HasBegun (error_line ending) call.err
+        → IsTakenFromFront call.commands × IsTakenFromFront call.schedule → call.spare.same → Goes call.image.before call.image.after → call.image.stays
+        → NeverFell call.commands × NeverFell call.schedule × DiskNeverFell call.image × NeverFell call.out → NeverFell call.err → EveryCommand (status_of ending) ending call
+    EveryCommand-comes comes told begun taken spare goes stays fell err_fell = record {
+      status_told = refl;
+      line_told = told;
+      line_begun = begun;
+      words = Comes-words _ comes;
+      device = Comes-device _ comes;
+      read = Comes-read _ comes;
+      write = Comes-write _ comes;
+      early = Comes-early _ comes;
+      commands_taken = taken.0;
+      schedule_taken = taken.1;
+      spare = spare;
+      image_goes = goes;
+      image_stays = stays;
+      commands_never_fell = fell.0;
+      schedule_never_fell = fell.1;
+      image_never_fell = fell.2;
+      out_never_fell = fell.3;
+      err_never_fell = err_fell;
+    }
+
+    -- By the command
+
+    pub OfNoCommand-comes : (command : Option Command) → Said command → Moment command → command ≡ None → OfNoCommand ending call
+    OfNoCommand-comes command comes moment is =
+        let said = subst Said is comes in
+        record {
+          words = said.0;
+          commands = said.1;
+          schedule = said.2;
+          image = said.4;
+          image_only_read = said.3;
+          out = said.5;
+          any_moment = subst Moment is moment;
+        }
+
+    pub OfRun-comes : (command : Option Command) → Said command → Moment command → command ≡ Some Run → OfRun (status_of ending) ending call
+    OfRun-comes command comes moment is =
+        let said = subst Said is comes in
+        record {
+          done = λ done. (subst Ran (ending_done ending done) said.0).1;
+          cut_short = λ cut. (subst Ran (ending_write ending cut) said.0).2;
+          in_turn = in_turn ending said.0;
+          commands_read = λ past. (taken ending said.0 past).commands_read;
+          schedule_read = λ past. (taken ending said.0 past).schedule_read;
+          commands_accepted = λ past. (taken ending said.0 past).commands_accepted;
+          schedule_accepted = λ past. (taken ending said.0 past).schedule_accepted;
+          commands_refused = λ refused. (subst Ran refused said.0).0;
+          schedule_refused = λ refused. (subst Ran refused said.0).0;
+          image_refused = λ fault refused. (subst Ran refused said.0).1;
+          image_untouched = untouched ending said.0;
+          image_only_read = said.1;
+          any_moment = subst Moment is moment;
+          too_long = λ known long. ⊎_elim (λ untouched. untouched) (λ whole. absurd (long_clash call.commands.before call.commands.after known long whole)) (in_turn ending said.0);
+        }
+
+    pub OfRunReadWell-comes : (command : Option Command) → Said command → command ≡ Some Run → AreReadWell call → OfRunReadWell (status_of ending) call
+    OfRunReadWell-comes command comes is well =
+        let runs = (subst Said is comes).0 in
+        record {
+          commands_refused = λ known none. commands_refused ending runs known none well;
+          schedule_refused = λ known none. schedule_refused ending runs known none well;
+          image_refused = λ texts. image_refused ending runs texts well;
+          carried_out = λ texts. carried_out ending runs texts well;
+        }
+
+    pub OfMake-comes : (command : Option Command) → Said command → Moment command → (geometry : Geometry) → command ≡ Some (Make geometry) → OfMake geometry (status_of ending) ending call
+    OfMake-comes command comes moment geometry is =
+        let said = subst Said is comes in
+        let makes = said.2 in
+        record {
+          statuses = of_make ending geometry makes;
+          made = λ done. (subst (Made geometry) (ending_done ending done) makes).0;
+          line = λ done. (subst (Made geometry) (ending_done ending done) makes).1;
+          cut_made = λ cut. (subst (Made geometry) (ending_write ending cut) makes).0;
+          cut_line = λ cut. (subst (Made geometry) (ending_write ending cut) makes).2;
+          small = ((λ image. let fault = ending_image ending image in is_small geometry fault.0 (subst (Made geometry) fault.1 makes)), of_small ending geometry makes);
+          small_told = λ fault is. small_told geometry fault (subst (Made geometry) is makes);
+          small_only_read = λ image. let fault = ending_image ending image in small_only_read geometry fault.0 (subst (Made geometry) fault.1 makes);
+          any_moment = subst Moment is moment;
+          commands = said.0;
+          schedule = said.1;
+          carried_out = made_out ending geometry makes;
+        }
