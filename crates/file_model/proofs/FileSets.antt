@@ -8,7 +8,7 @@ use Rattle.nesc_base.specs.declared.block.Block.{Block}
 use Rattle.nesc_base.specs.Block.{zero_block}
 use Rattle.nesc_base.specs.Files.{Body, File, Files, IsFile, IsFileSet, longest_file}
 use Rattle.nesc_base.specs.Name.{is_name}
-use Rattle.file_model.specs.Files.{Change, create, hold, put, Creates, Holds, Puts, Changes, MayChange, with_zeros}
+use Rattle.file_model.specs.Files.{Change, create, hold, put, Creates, Holds, LeadsTo, Puts, Changes, MayChange, with_zeros}
 use Rattle.nesc_base.proofs.Maps.{get-insert_same, get-insert_other}
 
 -- the blocks of a body lie below a length
@@ -77,9 +77,9 @@ IsHeldBelow-with_zeros length body [] within below = within
 IsHeldBelow-with_zeros length body (v ∷ blocks) within below =
     IsHeldBelow-with_zeros length (insert body v zero_block) blocks (IsHeldBelow-insert length body v zero_block within below.0) below.1
 
-pub IsFileSet-Creates : (old : Files) (name : List ℕ) (length : ℕ) (new : Files) → IsTrue (is_name name) → length ≤ longest_file → IsFileSet old → Creates old name length new → IsFileSet new
-IsFileSet-Creates old name length new named short set made = subst IsFileSet (sym made.result)
-    (IsFileSet-insert old made.number (record { name = name; length = length; body = empty }) set (made.lowest.first, made.lowest.last)
+pub IsFileSet-Creates : (old : Files) (n : ℕ) (name : List ℕ) (length : ℕ) (new : Files) → IsTrue (is_name name) → length ≤ longest_file → IsFileSet old → Creates old n name length new → IsFileSet new
+IsFileSet-Creates old n name length new named short set made = subst IsFileSet (sym made.result)
+    (IsFileSet-insert old n (record { name = name; length = length; body = empty }) set (made.lowest.first, made.lowest.last)
     (record { named = named; short = short; within = λ v some. absurd (nowhere Block v some) }) (λ m other apart stands. made.unnamed m other stands))
 
 pub IsFileSet-Holds : (old : Files) (n : ℕ) (blocks : List ℕ) (new : Files) → IsFileSet old → Holds old n blocks new → IsFileSet new
@@ -93,6 +93,11 @@ IsFileSet-Puts old n v block new set puts = subst IsFileSet (sym puts.result)
     (IsHeldBelow-insert puts.file.length puts.file.body v block (set.each n puts.file puts.stands).within ((set.each n puts.file puts.stands).within v puts.held)))
 
 pub IsFileSet-Changes : (old : Files) (change : Change) (new : Files) → MayChange change → IsFileSet old → Changes old change new → IsFileSet new
-IsFileSet-Changes old (create name length) new may set changes = IsFileSet-Creates old name length new may.0 may.1 set changes
+IsFileSet-Changes old (create n name length) new may set changes = IsFileSet-Creates old n name length new may.0 may.1 set changes
 IsFileSet-Changes old (hold n blocks) new may set changes = IsFileSet-Holds old n blocks new set changes
 IsFileSet-Changes old (put n v block) new may set changes = IsFileSet-Puts old n v block new set changes
+
+pub IsFileSet-LeadsTo : (old : Files) (changes : List Change) (new : Files) → AllByRecursion MayChange changes → IsFileSet old → LeadsTo old changes new → IsFileSet new
+IsFileSet-LeadsTo old [] new may set same = subst IsFileSet (sym same) set
+IsFileSet-LeadsTo old (change ∷ changes) new may set leads =
+    IsFileSet-LeadsTo leads.0 changes new may.1 (IsFileSet-Changes old change leads.0 may.0 set leads.1) leads.2

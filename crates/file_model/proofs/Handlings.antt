@@ -1,98 +1,101 @@
--- The host can handle whatever a function waits for.
-use Rattle.std.proofs.Common.{◌≡◌, ℕ, nat_eq, nat_lt, ◌<◌, Bool, true, false, not, cond, ◌&&◌, List, [], ◌∷◌, length, Option, Some, None, unwrap_or, refl, sym, ap, ◌∙◌, subst, arith}
-use Rattle.std.specs.FinMap.{empty, get, insert}
-use Rattle.std.specs.List.{AllByRecursion, IsDistinct, filter, range_with_len}
-use Rattle.std.proofs.lemmas.Bool.{and_parts, le-ltb, ltb-true, not-true}
+-- What a handling comes to.
+use Rattle.std.proofs.Common.{◌≡◌, List, [], length, take, Option, Some, None, refl, sym, ap, ◌∙◌}
+use Rattle.std.proofs.Math.Seq.{take-length}
+use Rattle.std.specs.Option.{option_and_then}
+use Rattle.nesc_base.specs.Files.{Files, file_at}
+use Rattle.nesc_base.specs.declared.numbers.FnNo.{FnNo}
 use Rattle.nesc_requests.specs.declared.request.Miss.{Miss}
-use Rattle.nesc_requests.specs.Script.{with_numbered}
-use Rattle.nesc_base.specs.Files.{File, Files, file_at}
-use Rattle.file_model.specs.Files.{holds, unheld, with_zeros}
-use Rattle.file_model.specs.Functions.{waiting_of}
-use Rattle.file_model.specs.Handlings.{Handles, HoldsAll, wanted}
-use Rattle.file_model.specs.State.{State}
-use Rattle.file_model.specs.declared.line.Handled.{Handled}
-use Rattle.file_model.specs.declared.line.Handled.TheVariants as handled
-use Rattle.file_model.proofs.Functions.{function_from_attached, attached_from_waiting}
-use Rattle.file_model.proofs.Held.{All-filter_range, IsDistinct-filter_range}
-use Rattle.file_model.proofs.Holding.{none_from_is_some}
+use Rattle.nesc_requests.specs.declared.request.Reply.{Reply}
+use Rattle.file_model.specs.Files.{Change, holding}
+use Rattle.file_model.specs.Functions.{Attached, Function, waiting_of}
+use Rattle.file_model.specs.Handlings.{CountsWanted, Handles, wanted}
+use Rattle.file_model.specs.declared.outcome.Handled.{Handled}
+use Rattle.file_model.specs.declared.outcome.Handled.TheVariants as handled
+use Rattle.file_model.proofs.Leading.{CanLead, can_hold_wanted}
 
-filter_one : (p : ℕ → Bool) (x : ℕ) (b : Bool) (rest kept : List ℕ) → filter p rest ≡ kept → filter p (cond b (x ∷ rest) rest) ≡ cond (b && p x) (x ∷ kept) kept
-filter_one p x true rest kept e = ap (λ (others : List ℕ). cond (p x) (x ∷ others) others) e
-filter_one p x false rest kept e = e
+pub record Handling : Type 0 where
+  pub handled : Handled
+  pub reply : Option Reply
+  pub changes : List Change
+  pub after : Function
 
--- those that pass one test and then another pass both
-filter_both : (p q : ℕ → Bool) (xs : List ℕ) → filter p (filter q xs) ≡ filter (λ x. q x && p x) xs
-filter_both p q [] = refl
-filter_both p q (x ∷ xs) = filter_one p x (q x) (filter q xs) (filter (λ x. q x && p x) xs) (filter_both p q xs)
+-- what it waits for, if it has something
+abbrev waiting_in : Option Attached → Option Miss
+waiting_in = option_and_then (λ (attached : Attached). attached.waiting)
 
--- where no test passes, nothing is left
-filter_none : (p : ℕ → Bool) (xs : List ℕ) → ((x : ℕ) → p x ≡ false) → filter p xs ≡ []
-filter_none p [] fails = refl
-filter_none p (x ∷ xs) fails = ap (λ (b : Bool). cond b (x ∷ filter p xs) (filter p xs)) (fails x) ∙ filter_none p xs fails
+module _ (files : Files) (old : Function) where
+  abbrev pub nothing_handled : Handling
+  nothing_handled = record { handled = handled.None; reply = None; changes = []; after = old }
 
--- a block is wanted: it is not held, and lies below the length
-abbrev is_wanted : File → ℕ → Bool
-is_wanted file at = not (holds file at) && nat_lt at file.length
+  abbrev pub handling_of : Attached → Option Miss → Handling
+  handling_of attached None = nothing_handled
+  handling_of attached (Some miss) = record {
+    handled = handled.Held (length (wanted (file_at files attached.file) miss));
+    reply = None;
+    changes = holding attached.file (wanted (file_at files attached.file) miss);
+    after = record old { attached = Some (record attached { waiting = None }) };
+  }
 
-wanted_range : (file : File) (miss : Miss) → wanted file miss ≡ filter (is_wanted file) (range_with_len miss.v miss.n)
-wanted_range file miss = filter_both (λ at. nat_lt at file.length) (λ at. not (holds file at)) (range_with_len miss.v miss.n)
+  abbrev pub handling_at : Option Attached → Handling
+  handling_at None = nothing_handled
+  handling_at (Some attached) = handling_of attached attached.waiting
 
--- a file that is not there wants nothing
-wanted_none : (miss : Miss) → wanted (record { name = []; length = 0; body = empty }) miss ≡ []
-wanted_none miss = filter_none (λ at. nat_lt at 0) (unheld (record { name = []; length = 0; body = empty }) miss.v miss.n) (λ at. le-ltb at 0 (omega arith))
+  abbrev pub handling : Handling
+  handling = handling_at old.attached
 
--- the blocks of a file that stands come to be held
-HoldsAll-there : (old : Files) (n : ℕ) (file : File) (blocks : List ℕ) → get old n ≡ Some file → AllByRecursion (λ v. v < file.length) blocks → AllByRecursion (λ v. get file.body v ≡ None) blocks
-    → IsDistinct nat_eq blocks → (new : Files) × HoldsAll old n blocks new
-HoldsAll-there old n file [] stands below fresh apart = (old, refl)
-HoldsAll-there old n file (v ∷ blocks) stands below fresh apart = (
-  insert old n (record file { body = with_zeros file.body (v ∷ blocks) }),
-  record { file = file; stands = stands; below = below; fresh = fresh; apart = apart; result = refl },
-)
+  -- It comes to nothing else
 
-HoldsAll-wanted : (old : Files) (n : ℕ) (file : File) (miss : Miss) → get old n ≡ Some file → (new : Files) × HoldsAll old n (wanted file miss) new
-HoldsAll-wanted old n file miss stands =
-    let blocks = filter (is_wanted file) (range_with_len miss.v miss.n) in
-    let held : (new : Files) × HoldsAll old n blocks new = HoldsAll-there old n file blocks stands
-    (All-filter_range (λ v. v < file.length) (is_wanted file) miss.v miss.n (λ k low high passes. ltb-true k file.length (and_parts (not (holds file k)) (nat_lt k file.length) passes).1))
-    (All-filter_range (λ v. get file.body v ≡ None) (is_wanted file) miss.v miss.n (λ k low high passes. none_from_is_some _ (not-true (holds file k) (and_parts (not (holds file k)) (nat_lt k file.length) passes).0)))
-    (IsDistinct-filter_range (is_wanted file) miss.v miss.n) in
-    subst (λ (blocks : List ℕ). (new : Files) × HoldsAll old n blocks new) (sym (wanted_range file miss)) held
+  nothing_waits : (has : Option Attached) → waiting_in has ≡ None → handling_at has ≡ nothing_handled
+  nothing_waits None none = refl
+  nothing_waits (Some attached) none = ap (handling_of attached) none
 
--- what the file of a number wants comes to be held, also where there is no such file
-HoldsAll-total : (old : Files) (n : ℕ) (found : Option File) (miss : Miss) → get old n ≡ found → (new : Files) × HoldsAll old n (wanted (file_at old n) miss) new
-HoldsAll-total old n None miss missing =
-    let file : File = record { name = []; length = 0; body = empty } in
-    let none : wanted (file_at old n) miss ≡ [] = ap (λ (o : Option File). wanted (unwrap_or o file) miss) missing ∙ wanted_none miss in
-    subst (λ (blocks : List ℕ). (new : Files) × HoldsAll old n blocks new) (sym none) (old, refl)
-HoldsAll-total old n (Some file) miss stands =
-    let there : file_at old n ≡ file = ap (λ (o : Option File). unwrap_or o (record { name = []; length = 0; body = empty })) stands in
-    subst (λ (file : File). (new : Files) × HoldsAll old n (wanted file miss) new) (sym there) (HoldsAll-wanted old n file miss stands)
+  pub handling_one : (f : FnNo) (done : Handled) (reply : Option Reply) (changes : List Change) (new : Function)
+      → Handles files f old done reply changes new → CountsWanted files old done
+      → record { handled = done; reply = reply; changes = changes; after = new } ≡ handling
+  handling_one f handled.None reply changes new handles counts =
+      (λ i. record { handled = handled.None; reply = handles.1 i; changes = handles.2 i; after = handles.3 i })
+      ∙ sym (nothing_waits old.attached handles.0)
+  handling_one f (handled.Held count) reply changes new handles counts =
+      let attached = handles.attached in
+      let blocks = wanted (file_at files attached.file) handles.miss in
+      let all = counts attached handles.miss handles.on handles.waits in
+      let changes = handles.holds ∙ (λ i. holding attached.file (take (all i) blocks)) ∙ ap (holding attached.file) (take-length blocks) in
+      (λ i. record { handled = handled.Held (all i); reply = handles.silent i; changes = changes i; after = handles.result i })
+      ∙ sym (ap handling_at handles.on ∙ ap (handling_of attached) handles.waits)
 
-handled_of : (old : State) (f : ℕ) (found : Option Miss) → waiting_of old.functions f ≡ found → (handled : Handled) × (new : State) × Handles old f handled new
-handled_of old f None idle = (handled.None, old, (idle, refl))
-handled_of old f (Some miss) waits =
-    let attached = attached_from_waiting old.functions f miss waits in
-    let function = function_from_attached old.functions f attached.0 attached.1 in
-    let held = HoldsAll-total old.now attached.0.file (get old.now attached.0.file) miss refl in (
-      handled.Held (length (wanted (file_at old.now attached.0.file) miss)),
-      record old {
-        now = held.0;
-        functions = with_numbered old.functions f (record function.0 { attached = Some (record attached.0 { waiting = None }) });
-      },
-      record {
-        function = function.0;
-        stands = function.1;
-        attached = attached.0;
-        on = function.2;
-        miss = miss;
-        waits = attached.2;
-        files = held.0;
-        holds = held.1;
-        count = refl;
-        result = refl;
-      },
-    )
+  -- And it does come to that
 
-pub Handles-total : (old : State) (f : ℕ) → (handled : Handled) × (new : State) × Handles old f handled new
-Handles-total old f = handled_of old f (waiting_of old.functions f) refl
+  pub record CanHandle (f : FnNo) (to : Handling) : Type 0 where
+    pub handles : Handles files f old to.handled to.reply to.changes to.after
+    pub counts : CountsWanted files old to.handled
+    pub leads : CanLead files to.changes
+
+  none_can : (f : FnNo) → waiting_of old ≡ None → CanHandle f nothing_handled
+  none_can f none = record { handles = (none, refl, refl, refl); counts = λ attached miss _ _. tt; leads = (files, refl) }
+
+  handles_of : (f : FnNo) (attached : Attached) (waits : Option Miss) → old.attached ≡ Some attached → attached.waiting ≡ waits
+      → CanHandle f (handling_of attached waits)
+  handles_of f attached None on none = none_can f (ap waiting_in on ∙ none)
+  handles_of f attached (Some miss) on waits = record {
+    handles = record {
+      attached = attached;
+      on = on;
+      miss = miss;
+      waits = waits;
+      holds = sym (ap (holding attached.file) (take-length (wanted (file_at files attached.file) miss)));
+      silent = refl;
+      result = refl;
+    };
+    counts = λ other missed other_on other_waits.
+        let same : attached ≡ other = cc (sym on ∙ other_on) in
+        let same_miss : miss ≡ missed = cc (sym waits ∙ ap (λ (attached : Attached). attached.waiting) same ∙ other_waits) in
+        λ i. length (wanted (file_at files (same i).file) (same_miss i));
+    leads = can_hold_wanted files attached.file miss;
+  }
+
+  handles_at : (f : FnNo) (has : Option Attached) → old.attached ≡ has → CanHandle f (handling_at has)
+  handles_at f None off = none_can f (ap waiting_in off)
+  handles_at f (Some attached) on = handles_of f attached attached.waiting on refl
+
+  pub handling_handles : (f : FnNo) → CanHandle f handling
+  handling_handles f = handles_at f old.attached refl

@@ -2,7 +2,7 @@
 use Rattle.std.proofs.Common.{◌≡◌, ◌≢◌, ℕ, zero, suc, nat_eq, ◌+◌, ◌-◌, ◌<◌, ◌≤◌, Bool, true, false, not, cond, List, [], ◌∷◌, Option, Some, None, IfSome, IsSome, IsSomeAnd, refl, sym, ap, ◌∙◌, subst, ⊎_elim, arith}
 use Rattle.std.specs.FinMap.{get, insert}
 use Rattle.std.specs.List.{AllByRecursion, IsDistinct, filter, range_with_len}
-use Rattle.std.proofs.lemmas.Bool.{cases_eq}
+use Rattle.std.proofs.lemmas.Bool.{cases_eq, not-false, not-true}
 use Rattle.nesc_base.specs.Block.{zero_block}
 use Rattle.nesc_base.specs.Files.{Body, File, Files}
 use Rattle.file_model.specs.Files.{Changes, Holds, hold, holds, unheld, with_zeros}
@@ -39,10 +39,6 @@ IsDistinct-filter_range p a (suc n) =
     (All-filter_range (λ y. nat_eq a y ≡ false) p (a + 1) n (λ k from to passes. let apart : a ≢ k = omega arith in grind arith))
     (IsDistinct-filter_range p (a + 1) n)
 
-not_true : (b : Bool) → not b ≡ true → b ≡ false
-not_true true e = sym e
-not_true false e = refl
-
 -- the file comes to hold those of n blocks from v on that it did not hold
 pub Holds-with_held : (files : Files) (number : ℕ) (file : File) (v n : ℕ) → get files number ≡ Some file → ((k : ℕ) → v ≤ k → k < v + n → k < file.length)
     → Holds files number (unheld file v n) (insert files number (with_held file v n))
@@ -50,7 +46,7 @@ Holds-with_held files number file v n stands below = record {
   file = file;
   stands = stands;
   below = All-filter_range (λ k. k < file.length) (λ at. not (holds file at)) v n (λ k low high _. below k low high);
-  fresh = All-filter_range (λ k. get file.body k ≡ None) (λ at. not (holds file at)) v n (λ k low high free. none_from_is_some _ (not_true (holds file k) free));
+  fresh = All-filter_range (λ k. get file.body k ≡ None) (λ at. not (holds file at)) v n (λ k low high free. none_from_is_some _ (not-true (holds file k) free));
   apart = IsDistinct-filter_range (λ at. not (holds file at)) v n;
   result = refl;
 }
@@ -82,17 +78,13 @@ zeros_all p body a (suc n) held k low high =
     zeros_all p other (a + 1) n (λ j fails. keeps j (held j fails)) k later within)
     (held a)
 
-holds_from : (b : Bool) → not b ≡ false → b ≡ true
-holds_from true e = refl
-holds_from false e = sym e
-
 -- the file holds each of the blocks that it came to hold
 pub AreHeld-Holds : (old : Files) (number : ℕ) (file : File) (v n : ℕ) (new : Files) → get old number ≡ Some file → Holds old number (unheld file v n) new → AreHeld new number v n
 AreHeld-Holds old number file v n new stands held k low high =
     let same : held.file ≡ file = cc (sym held.stands ∙ stands) in
     let after = record held.file { body = with_zeros held.file.body (unheld file v n) } in
     let found = ap (λ (files : Files). get files number) held.result ∙ get-insert_same old number after in
-    let inside = zeros_all (λ at. not (holds file at)) file.body v n (λ j fails. holds_from (holds file j) fails) k low high in
+    let inside = zeros_all (λ at. not (holds file at)) file.body v n (λ j fails. not-false (holds file j) fails) k low high in
     subst (λ (o : Option File). IsSomeAnd o (λ f. IsSome (get f.body k))) (sym found)
     (subst (λ (f : File). IsSome (get (with_zeros f.body (unheld file v n)) k)) (sym same) inside)
 

@@ -1,5 +1,5 @@
 -- Which blocks a file comes to hold.
-use Rattle.std.proofs.Common.{◌≡◌, ◌≢◌, ℕ, zero, suc, ◌+◌, ◌-◌, ◌<◌, ◌≤◌, Bool, true, false, not, cond, ◌∷◌, Option, None, Some, refl, sym, ap, ◌∙◌, arith}
+use Rattle.std.proofs.Common.{◌≡◌, ◌≢◌, ℕ, zero, suc, ◌+◌, ◌-◌, ◌<◌, Bool, false, not, cond, ◌∷◌, Option, None, Some, refl, sym, ap, ◌∙◌, arith}
 use Rattle.std.specs.FinMap.{insert, remove}
 use Rattle.std.specs.Option.{is_some}
 use Rattle.nesc_base.specs.declared.block.Block.{Block}
@@ -25,14 +25,6 @@ pub unheld_first : (file : File) (v end : ℕ) → v < end → (b : Bool) → ho
 unheld_first file v end some b held =
     let e : end - v ≡ suc (end - (v + 1)) = omega arith in
     ap (unheld file v) e ∙ ap (λ b. cond (not b) (v ∷ unheld file (v + 1) (end - (v + 1))) (unheld file (v + 1) (end - (v + 1)))) held
-
--- no block comes to be held
-pub with_held-none : (file : File) (v end : ℕ) → end ≤ v → with_held file v (end - v) ≡ file
-with_held-none file v end none = let e : end - v ≡ 0 = omega arith in ap (with_held file v) e
-
--- the first is held already
-pub with_held-held : (file : File) (v end : ℕ) → v < end → holds file v ≡ true → with_held file v (end - v) ≡ with_held file (v + 1) (end - (v + 1))
-with_held-held file v end some held = ap (λ blocks. record file { body = with_zeros file.body blocks }) (unheld_first file v end some true held)
 
 -- the first comes to be held, and then the others
 pub with_held-more : (file : File) (v end : ℕ) → v < end → holds file v ≡ false

@@ -2,7 +2,7 @@
 use Rattle.std.proofs.Common.{◌≡◌, ℕ, List, Some, sym, ap, ◌∙◌}
 use Rattle.std.specs.FinMap.{get}
 use Rattle.nesc_base.specs.Files.{File, Files, IsFileSet}
-use Rattle.file_model.specs.Files.{HasName, IsUnnamed}
+use Rattle.file_model.specs.Files.{HasName}
 
 -- one file has the name
 pub named_one : (old : Files) (name : List ℕ) (m n : ℕ) (file other : File) → IsFileSet old → HasName old name m file → HasName old name n other → (m ≡ n) × (file ≡ other)
@@ -10,7 +10,3 @@ named_one old name m n file other set first second =
     let number = set.apart m n file other first.stands second.stands (first.named ∙ sym second.named) in
     let stands : Some file ≡ Some other = sym first.stands ∙ ap (get old) number ∙ second.stands in
     (number, cc)
-
--- a file of the name, and none of it
-pub named_and_unnamed : (old : Files) (name : List ℕ) (n : ℕ) (file : File) → HasName old name n file → IsUnnamed old name → ⊥
-named_and_unnamed old name n file named unnamed = unnamed n file named.stands named.named

@@ -1,10 +1,10 @@
 -- A change leaves one result.
-use Rattle.std.proofs.Common.{◌≡◌, ℕ, ◌+◌, ◌<◌, ◌≤◌, List, [], ◌∷◌, Option, None, IsSome, sym, ap, ◌∙◌, subst, ⊎_elim, arith}
-use Rattle.std.specs.FinMap.{insert, empty}
+use Rattle.std.proofs.Common.{◌≡◌, ℕ, ◌<◌, ◌≤◌, List, [], ◌∷◌, Option, None, IsSome, sym, ap, ◌∙◌, subst, ⊎_elim, arith}
+use Rattle.std.specs.FinMap.{insert}
 use Rattle.std.proofs.lemmas.Bool.{false≢true, cases_lt}
 use Rattle.nesc_base.specs.declared.block.Block.{Block}
 use Rattle.nesc_base.specs.Files.{File, Files}
-use Rattle.file_model.specs.Files.{IsLowestUnused, Creates, Holds, Puts, PutsEach, with_zeros}
+use Rattle.file_model.specs.Files.{IsLowestUnused, Change, Changes, Creates, Holds, LeadsTo, Puts, create, hold, put, with_zeros}
 
 pub nothing_there : {X : Type 0} (found : Option X) → found ≡ None → IsSome found → ⊥
 nothing_there {X} found none some = let no : IsSome {T = X} None = subst IsSome none some in false≢true no
@@ -16,9 +16,8 @@ lowest_one old m n first second =
     (λ (above : n ≤ m). ⊎_elim (λ (below : n < m). absurd (nothing_there _ second.unused (first.lower n second.first below))) (λ (same : m ≤ n). omega arith) (cases_lt n m))
     (cases_lt m n)
 
-pub creates_one : (old : Files) (name : List ℕ) (length : ℕ) (first second : Files) → Creates old name length first → Creates old name length second → first ≡ second
-creates_one old name length first second one other =
-    one.result ∙ ap (λ (n : ℕ). insert old n (record { name = name; length = length; body = empty })) (lowest_one old one.number other.number one.lowest other.lowest) ∙ sym other.result
+pub creates_one : (old : Files) (n : ℕ) (name : List ℕ) (length : ℕ) (first second : Files) → Creates old n name length first → Creates old n name length second → first ≡ second
+creates_one old n name length first second one other = one.result ∙ sym other.result
 
 pub holds_one : (old : Files) (n : ℕ) (blocks : List ℕ) (first second : Files) → Holds old n blocks first → Holds old n blocks second → first ≡ second
 holds_one old n blocks first second one other =
@@ -30,8 +29,14 @@ puts_one old n v block first second one other =
     let same : one.file ≡ other.file = cc (sym one.stands ∙ other.stands) in
     one.result ∙ ap (λ (file : File). insert old n (record file { body = insert file.body v block })) same ∙ sym other.result
 
-pub puts_each_one : (old : Files) (n v : ℕ) (blocks : List Block) (first second : Files) → PutsEach old n v blocks first → PutsEach old n v blocks second → first ≡ second
-puts_each_one old n v [] first second one other = one ∙ sym other
-puts_each_one old n v (block ∷ blocks) first second one other =
-    let next = puts_one old n v block one.0 other.0 one.1 other.1 in
-    puts_each_one other.0 n (v + 1) blocks first second (subst (λ (from : Files). PutsEach from n (v + 1) blocks first) next one.2) other.2
+pub change_one : (old : Files) (change : Change) (first second : Files) → Changes old change first → Changes old change second → first ≡ second
+change_one old (create n name length) first second one other = creates_one old n name length first second one other
+change_one old (hold n blocks) first second one other = holds_one old n blocks first second one other
+change_one old (put n v block) first second one other = puts_one old n v block first second one other
+
+-- and so do several, one after another
+pub leads_one : (old : Files) (changes : List Change) (first second : Files) → LeadsTo old changes first → LeadsTo old changes second → first ≡ second
+leads_one old [] first second one other = one ∙ sym other
+leads_one old (change ∷ changes) first second one other =
+    let next = change_one old change one.0 other.0 one.1 other.1 in
+    leads_one other.0 changes first second (subst (λ (from : Files). LeadsTo from changes first) next one.2) other.2

@@ -1,54 +1,51 @@
--- A guest's turn has an outcome.
-use Rattle.std.proofs.Common.{◌≡◌, ℕ, inl, inr, List, [], ◌∷◌, length, Option, Some, None, refl}
-use Rattle.std.proofs.lemmas.Bool.{cases_lt}
+-- What comes of a request that is handed in.
+use Rattle.std.proofs.Common.{◌≡◌, ℕ, ltb-false, ltb-true, le-ltb, lt-ltb, nat_lt, if◌then◌else◌, length, Option, Some, None, refl, sym, ap, ◌∙◌}
+use Rattle.std.proofs.lemmas.Bool.{cond_both, cond-false, cond-true}
 use Rattle.nesc_requests.specs.declared.request.Request.{Request}
-use Rattle.nesc_requests.specs.Script.{requests_of, with_numbered}
-use Rattle.file_model.specs.Functions.{Attached, attached_of}
-use Rattle.file_model.specs.State.{State}
+use Rattle.file_model.specs.Functions.{Attached, Function}
+use Rattle.file_model.specs.Given.{fetched_in}
 use Rattle.file_model.specs.Submissions.{Submits, queueing}
-use Rattle.file_model.specs.declared.line.Submission.{Submission}
-use Rattle.file_model.specs.declared.line.Submission.TheVariants as submission
-use Rattle.file_model.proofs.Functions.{function_from_attached}
+use Rattle.file_model.specs.declared.outcome.Answer.{Answer}
+use Rattle.file_model.specs.declared.outcome.Answer.TheVariants as answer
 
--- what comes of the turn, and what it leaves
-abbrev Submitted : State → ℕ → Type 0
-Submitted old f = (submission : Submission) × (new : State) × Submits old f submission new
+module _ (most : ℕ) (old : Function) (request : Request) where
+  -- the answer, and the function after it, where the function has this, if it has something
+  abbrev pub submitted_to : Option Attached → Answer × Function
+  submitted_to None = (answer.Off request, old)
+  submitted_to (Some attached) =
+      if nat_lt (length attached.queue) most then (answer.Queued old.next, queueing old attached request)
+      else (answer.Full request, old)
 
--- a request is left, and the function has a file
-submitted_on : (old : State) (f : ℕ) (request : Request) (left : List Request) (attached : Attached) → requests_of old.script f ≡ request ∷ left → attached_of old.functions f ≡ Some attached → Submitted old f
-submitted_on old f request left attached next on =
-    elim (cases_lt (length attached.queue) old.depth) [
-      | inl room ↦
-          let found = function_from_attached old.functions f attached on in (
-            submission.Queued found.0.next,
-            record old {
-              functions = with_numbered old.functions f (queueing found.0 attached request);
-              script = record old.script { guests = with_numbered old.script.guests f left };
-            },
-            record {
-              function = found.0;
-              stands = found.1;
-              attached = attached;
-              on = found.2;
-              request = request;
-              left = left;
-              next = next;
-              room = room;
-              number = refl;
-              result = refl;
-            },
-          )
-      | inr full ↦ (submission.Full, old, ((request, left, next), record { attached = attached; on = on; full = full }, refl))
-    ]
+  abbrev pub submitted : Answer × Function
+  submitted = submitted_to old.attached
 
--- a request is left
-submitted_next : (old : State) (f : ℕ) (request : Request) (left : List Request) (found : Option Attached) → requests_of old.script f ≡ request ∷ left → attached_of old.functions f ≡ found → Submitted old f
-submitted_next old f request left None next off = (submission.Off, old, ((request, left, next), off, refl))
-submitted_next old f request left (Some attached) next on = submitted_on old f request left attached next on
+  -- nothing else comes of it
+  pub submitted_one : (came : Answer) (new : Function) → Submits most old request came new → (came, new) ≡ submitted
+  submitted_one (answer.Off back) new submits = (λ i. (answer.Off (submits.1 i), submits.2 i)) ∙ sym (ap submitted_to submits.0)
+  submitted_one (answer.Full back) new submits =
+      (λ i. (answer.Full (submits.1 i), submits.2 i))
+      ∙ sym (ap submitted_to submits.0.on ∙ cond-false _ _ _ (le-ltb _ _ submits.0.full))
+  submitted_one (answer.Queued id) new submits =
+      (λ i. (answer.Queued (submits.id_is i), submits.result i))
+      ∙ sym (ap submitted_to submits.on ∙ cond-true _ _ _ (lt-ltb _ _ submits.room))
+  submitted_one other new submits = absurd submits
 
-submitted_of : (old : State) (f : ℕ) (requests : List Request) → requests_of old.script f ≡ requests → Submitted old f
-submitted_of old f [] none = (submission.End, old, (none, refl))
-submitted_of old f (request ∷ left) next = submitted_next old f request left (attached_of old.functions f) next refl
+  submits_to : (has : Option Attached) → old.attached ≡ has → Submits most old request (submitted_to has).0 (submitted_to has).1
+  submits_to None off = (off, refl, refl)
+  submits_to (Some attached) on =
+      cond_both (nat_lt (length attached.queue) most) _ _ (λ (came : Answer × Function). Submits most old request came.0 came.1)
+      (λ room. record { attached = attached; on = on; room = ltb-true _ _ room; id_is = refl; result = refl })
+      (λ full. (record { attached = attached; on = on; full = ltb-false _ _ full }, refl, refl))
 
-pub Submits-total : (old : State) (f : ℕ) → (submission : Submission) × (new : State) × Submits old f submission new
-Submits-total old f = submitted_of old f (requests_of old.script f) refl
+  -- and this does
+  pub submitted_submits : Submits most old request submitted.0 submitted.1
+  submitted_submits = submits_to old.attached refl
+
+  fetches_none_to : (has : Option Attached) → fetched_in (submitted_to has).0 ≡ 0
+  fetches_none_to None = refl
+  fetches_none_to (Some attached) =
+      cond_both (nat_lt (length attached.queue) most) _ _ (λ (came : Answer × Function). fetched_in came.0 ≡ 0) (λ _. refl) (λ _. refl)
+
+  -- with no node fetched
+  pub submitted_fetches_none : fetched_in submitted.0 ≡ 0
+  submitted_fetches_none = fetches_none_to old.attached

@@ -1,137 +1,119 @@
--- A tick takes a function that is runnable, and serves it or lets it wait.
-use Rattle.std.proofs.Common.{◌≡◌, ℕ, ◌-◌, ◌<◌, inl, inr, true, false, List, [], ◌∷◌, Option, Some, None, unwrap_or, refl, sym, ◌∙◌, subst, arith, slice_set, slice_index_or}
-use Rattle.std.specs.FinMap.{empty, get, insert}
-use Rattle.std.proofs.lemmas.Bool.{cases_Bool, cases_lt}
-use Rattle.nesc_base.specs.Block.{zero_block}
-use Rattle.nesc_base.specs.declared.block.Block.{Block}
-use Rattle.nesc_requests.specs.declared.request.End.TheVariants as end
-use Rattle.nesc_requests.specs.declared.request.Kind.TheVariants.{Unmapped}
-use Rattle.nesc_requests.specs.declared.request.Miss.{Miss}
-use Rattle.nesc_requests.specs.declared.request.Request.{Request}
-use Rattle.nesc_requests.specs.declared.request.Request.TheVariants.{Read, Write}
-use Rattle.nesc_requests.specs.Requests.{block_count}
-use Rattle.nesc_requests.specs.Script.{with_numbered}
-use Rattle.nesc_base.specs.Files.{File, Files}
-use Rattle.file_model.specs.Files.{Puts, holds, read}
-use Rattle.file_model.specs.Functions.{Attached, next_runnable}
-use Rattle.file_model.specs.Misses.{MissLaw, ShowsPlace}
+-- What a tick comes to.
+use Rattle.std.proofs.Common.{◌≡◌, ℕ, not, Bool, true, false, cond, inl, inr, List, [], ◌∷◌, length, Option, None, Some, refl, sym, ap, ◌∙◌, subst}
+use Rattle.std.proofs.lemmas.Bool.{and_parts, false≢true}
+use Rattle.std.specs.List.{find}
+use Rattle.std.specs.Option.{is_none, option_and_then, unwrap_or}
+use Rattle.nesc_base.specs.Files.{file_at}
+use Rattle.nesc_base.specs.declared.numbers.FnNo.{FnNo}
+use Rattle.nesc_requests.specs.Script.{numbered, with_numbered}
+use Rattle.nesc_requests.specs.declared.event.Event.TheVariants.{Tick}
+use Rattle.nesc_requests.specs.declared.request.Queued.{Queued}
+use Rattle.file_model.specs.Functions.{Attached, Function, function_of, in_turn, is_empty, is_ready, is_runnable, next_runnable, off}
+use Rattle.file_model.specs.Given.{fetched_in}
 use Rattle.file_model.specs.State.{State}
-use Rattle.file_model.specs.Ticks.{Turn, IsTurn, Serves, TakesTurn, Ticks, next_block, file_of, ended, replies_of, reply_of, served_of}
-use Rattle.file_model.specs.declared.line.How.TheVariants.{Walk, Hole, Range}
-use Rattle.file_model.specs.declared.line.Line.{Line}
-use Rattle.file_model.specs.declared.line.Line.TheVariants.{Idle, Served, Missed, Replied}
-use Rattle.file_model.proofs.FileSets.{nowhere}
-use Rattle.file_model.proofs.Turns.{turn_of, one_turn}
+use Rattle.file_model.specs.Ticks.{Ticks, Turn}
+use Rattle.file_model.specs.declared.outcome.Answer.TheVariants.{Idle}
+use Rattle.file_model.specs.declared.setting.Setting.{Setting}
+use Rattle.file_model.proofs.Comings.{CanCome, Coming}
+use Rattle.file_model.proofs.Turns.{Turned, turn_of, turn_of-Some, turn_at, turn_with, turned, turned_one, turned_turns}
 
--- a block that the file of a number holds can be put
-Puts-at : (old : Files) (n v : ℕ) (block : Block) (found : Option File) → get old n ≡ found → holds (unwrap_or found (record { name = []; length = 0; body = empty })) v ≡ true → (new : Files) × Puts old n v block new
-Puts-at old n v block None missing held = absurd (nowhere Block v held)
-Puts-at old n v block (Some file) stands held = (insert old n (record file { body = insert file.body v block }), record { file = file; stands = stands; held = held; result = refl })
+abbrev pub idle : State → Coming
+idle old = record { answer = Idle; reply = None; changes = []; functions = old.functions; last = old.last }
 
--- what a function that is taken is shown and served, as the place asks
-abbrev IsServed : Files → Turn → Type 0
-IsServed old turn =
-    (lines : List Line) × (after : Attached) × (new : Files) × Serves old turn lines after new
-    × (next_block turn < (file_of old turn).length → ShowsPlace (holds (file_of old turn) (next_block turn)) turn.head.request lines)
+abbrev pub turned_to : State → FnNo → Turned → Coming
+turned_to old f to = record {
+  answer = to.answer;
+  reply = to.reply;
+  changes = to.changes;
+  functions = with_numbered old.functions f.0 (record (function_of old.functions f.0) { attached = Some to.after });
+  last = f.0;
+}
 
--- the turn of a function with this first request
-abbrev turn_with : Turn → Request → Turn
-turn_with turn request = record turn { head = record turn.head { request = request } }
+abbrev pub ticked_by : State → ℕ → FnNo → Option Turn → Coming
+ticked_by old fetched f None = idle old
+ticked_by old fetched f (Some turn) = turned_to old f (turned (file_at old.now turn.attached.file) turn fetched)
 
--- at a block that is held
-served_held : (old : Files) (turn : Turn) (request : Request) → next_block (turn_with turn request) < (file_of old turn).length → holds (file_of old turn) (next_block (turn_with turn request)) ≡ true → IsServed old (turn_with turn request)
-served_held old turn (Read v into) below held =
-    let taken = turn_with turn (Read v into) in
-    let request = Read v (slice_set into turn.attached.done (read (file_of old taken) (next_block taken))) in
-    let lines = Served turn.f (next_block taken) (Walk 0) ∷ replies_of taken request in (
-      lines,
-      served_of taken request,
-      old,
-      (refl, refl, record { below = below; request = request; reaches = (held, refl, refl); reply = refl; result = refl }),
-      λ _. subst (λ b. ShowsPlace b (Read v into) lines) (sym held) refl,
-    )
-served_held old turn (Write v from) below held =
-    let taken = turn_with turn (Write v from) in
-    let request = Write v from in
-    let block = slice_index_or from turn.attached.done zero_block in
-    let puts = Puts-at old turn.attached.file (next_block taken) block (get old turn.attached.file) refl held in
-    let lines = Served turn.f (next_block taken) (Walk 0) ∷ replies_of taken request in (
-      lines,
-      served_of taken request,
-      puts.0,
-      (refl, refl, record { below = below; request = request; reaches = (refl, puts.1); reply = refl; result = refl }),
-      λ _. subst (λ b. ShowsPlace b (Write v from) lines) (sym held) refl,
-    )
+abbrev pub ticked_for : State → ℕ → Option ℕ → Coming
+ticked_for old fetched None = idle old
+ticked_for old fetched (Some f) = ticked_by old fetched (record { 0 = f }) (turn_of (record { 0 = f }) (function_of old.functions f))
 
--- at a block that is not held
-served_unheld : (old : Files) (turn : Turn) (request : Request) → next_block (turn_with turn request) < (file_of old turn).length → holds (file_of old turn) (next_block (turn_with turn request)) ≡ false → IsServed old (turn_with turn request)
-served_unheld old turn (Read v into) below unheld =
-    let taken = turn_with turn (Read v into) in
-    let request = Read v (slice_set into turn.attached.done zero_block) in
-    let lines = Served turn.f (next_block taken) (Hole 0) ∷ replies_of taken request in (
-      lines,
-      served_of taken request,
-      old,
-      (refl, refl, record { below = below; request = request; reaches = (unheld, refl, refl); reply = refl; result = refl }),
-      λ _. subst (λ b. ShowsPlace b (Read v into) lines) (sym unheld) refl,
-    )
-served_unheld old turn (Write v from) below unheld =
-    let taken = turn_with turn (Write v from) in
-    let miss : Miss = record { v = next_block taken; n = block_count (Write v from) - turn.attached.done; kind = Unmapped } in
-    let lines = Missed turn.f miss 0 ∷ [] in (
-      lines,
-      record turn.attached { waiting = Some miss },
-      old,
-      (refl, record { below = below; writes = refl; unheld = unheld; is = refl; result = refl; same = refl }),
-      λ _. subst (λ b. ShowsPlace b (Write v from) lines) (sym unheld) refl,
-    )
+-- what a tick comes to where so many nodes are fetched
+abbrev pub ticked : State → ℕ → Coming
+ticked old fetched = ticked_for old fetched (next_runnable old.functions old.last)
 
-served : (old : Files) (turn : Turn) → IsServed old turn
-served old turn =
-    elim (cases_lt (next_block turn) (file_of old turn).length) [
-      | inl below ↦ elim (cases_Bool (holds (file_of old turn) (next_block turn))) [
-        | inl held ↦ served_held old turn turn.head.request below held
-        | inr unheld ↦ served_unheld old turn turn.head.request below unheld
-      ]
-      | inr past ↦ (
-        Served turn.f (next_block turn) Range ∷ Replied (reply_of turn end.Range turn.attached.done turn.head.request) ∷ [],
-        ended turn,
-        old,
-        (refl, refl, record { past = past; reply = refl; result = refl; same = refl }),
-        λ below. absurd (omega arith),
-      )
-    ]
+-- It comes to nothing else
 
--- a function that was taken was served, so the tick was not idle
-Ticks-from : (old : State) (lines : List Line) (new : State) → TakesTurn old lines new → Ticks old lines new
-Ticks-from old (Idle ∷ []) new takes = absurd takes.serves
-Ticks-from old lines new takes = takes
+pub ticked_one : (old : State) (coming : Coming) → Ticks old coming.answer coming.reply coming.changes coming.functions coming.last
+    → coming ≡ ticked old (fetched_in coming.answer)
+ticked_one old coming (inl is) =
+    (λ i. record { answer = is.idle i; reply = is.silent i; changes = is.unchanged i; functions = is.same i; last = is.same_last i })
+    ∙ sym (ap (ticked_for old (fetched_in coming.answer)) is.none)
+ticked_one old coming (inr takes) =
+    let fetched = fetched_in coming.answer in
+    let serves = takes.serves.becomes in
+    let file = file_at old.now serves.turn.attached.file in
+    let turns = turned_one file serves.turn coming.answer coming.reply coming.changes serves.after serves.turns in
+    let functions = takes.serves.others ∙ ap (with_numbered old.functions takes.f.0) serves.result in
+    let turn = turn_of-Some takes.f (function_of old.functions takes.f.0) serves.turn serves.is in
+    (λ i. record coming { functions = functions i; last = takes.last_is i })
+    ∙ ap (turned_to old takes.f) turns
+    ∙ sym (ap (ticked_for old fetched) takes.next ∙ ap (ticked_by old fetched takes.f) turn)
 
--- the law speaks of the one turn that there is
-MissLaw-from : (old : State) (turn : Turn) (lines : List Line) → IsTurn old turn
-    → (next_block turn < (file_of old.now turn).length → ShowsPlace (holds (file_of old.now turn) (next_block turn)) turn.head.request lines) → MissLaw old lines
-MissLaw-from old turn lines is shows other is_other = subst
-    (λ (t : Turn). next_block t < (file_of old.now t).length → ShowsPlace (holds (file_of old.now t) (next_block t)) t.head.request lines)
-    (one_turn old turn other is is_other) shows
+-- And it does come to that
 
-ticked_of : (old : State) (found : Option ℕ) → next_runnable old.functions old.last ≡ found → (lines : List Line) × (new : State) × (Ticks old lines new × MissLaw old lines)
-ticked_of old None none = (Idle ∷ [], old, ((none, refl), λ turn is. let no : None ≡ Some turn.f.0 = sym none ∙ is.next in cc))
-ticked_of old (Some f) next =
-    let turn = turn_of old f next in
-    let serves = served old.now turn.0 in
-    let new : State = record old {
-      now = serves.2;
-      functions = with_numbered old.functions turn.0.f.0 (record turn.0.function { attached = Some serves.1 });
-      last = turn.0.f.0;
-    } in (
-      serves.0,
-      new,
-      (
-        Ticks-from old serves.0 new (record { turn = turn.0; is = turn.1; after = serves.1; files = serves.2; serves = serves.3; result = refl }),
-        MissLaw-from old turn.0 serves.0 turn.1 serves.4,
-      ),
-    )
+found_first : (p : ℕ → Bool) (rest : Option ℕ) (x y : ℕ) (b : Bool) → p y ≡ b → (rest ≡ Some x → p x ≡ true)
+    → cond b (Some y) rest ≡ Some x → p x ≡ true
+found_first p rest x y true passes later e = let same : y ≡ x = cc in subst (λ (n : ℕ). p n ≡ true) same passes
+found_first p rest x y false fails later e = later e
 
--- each tick has its lines
-pub Ticks-total : (old : State) → (lines : List Line) × (new : State) × (Ticks old lines new × MissLaw old lines)
-Ticks-total old = ticked_of old (next_runnable old.functions old.last) refl
+found_passes : (p : ℕ → Bool) (xs : List ℕ) (x : ℕ) → find p xs ≡ Some x → p x ≡ true
+found_passes p [] x e = cc
+found_passes p (y ∷ xs) x e = found_first p (find p xs) x y (p y) refl (found_passes p xs x) e
+
+attached_from_function : (found : Option Function)
+    → option_and_then (λ (function : Function). function.attached) found ≡ (unwrap_or found off).attached
+attached_from_function None = refl
+attached_from_function (Some function) = refl
+
+module _ (setting : Setting) (old : State) (f : FnNo) (next : next_runnable old.functions old.last ≡ Some f.0) where
+  taken_with : (attached : Attached) (queue : List Queued) → (function_of old.functions f.0).attached ≡ Some attached
+      → attached.queue ≡ queue → not (is_empty queue) ≡ true → CanCome setting old Tick (ticked_by old 0 f (turn_with f attached queue))
+  taken_with attached [] on empty some = absurd (false≢true some)
+  taken_with attached (head ∷ rest) on queue some =
+      let turn : Turn = record { f = f; attached = attached; head = head; rest = rest } in
+      let turns = turned_turns old.now turn in record {
+        comes = inr (record {
+          f = f;
+          next = next;
+          serves = record {
+            after = _;
+            becomes = record { turn = turn; is = record { takes = refl; on = on; queue = queue }; after = _; turns = turns.turns; result = refl };
+            others = refl;
+          };
+          last_is = refl;
+        });
+        none_fetched = turns.none_fetched;
+        leads = turns.leads;
+      }
+
+  taken_at : (has : Option Attached) → (function_of old.functions f.0).attached ≡ has → is_ready has ≡ true
+      → CanCome setting old Tick (ticked_by old 0 f (turn_at f has))
+  taken_at None none ready = absurd (false≢true ready)
+  taken_at (Some attached) on ready =
+      let parts = and_parts (not (is_empty attached.queue)) (is_none attached.waiting) ready in
+      taken_with attached attached.queue on refl parts.0
+
+ticked_by_next : (setting : Setting) (old : State) (next : Option ℕ) → next_runnable old.functions old.last ≡ next
+    → CanCome setting old Tick (ticked_for old 0 next)
+ticked_by_next setting old None none = record {
+  comes = inl (record { none = none; idle = refl; silent = refl; unchanged = refl; same = refl; same_last = refl });
+  none_fetched = refl;
+  leads = (old.now, refl);
+}
+ticked_by_next setting old (Some f) next =
+    let runnable = found_passes (is_runnable old.functions) (in_turn old.last (length old.functions)) f next in
+    taken_at setting old (record { 0 = f }) next (function_of old.functions f).attached refl
+    (sym (ap is_ready (attached_from_function (numbered old.functions f))) ∙ runnable)
+
+pub ticked_comes : (setting : Setting) (old : State) → CanCome setting old Tick (ticked old 0)
+ticked_comes setting old = ticked_by_next setting old (next_runnable old.functions old.last) refl

@@ -1,5 +1,5 @@
 -- Files: what is read from them, and how they change.
-use Rattle.std.specs.Prelude.{◌≡◌, ◌≢◌, ℕ, ◌+◌, ◌<◌, ◌≤◌, nat_eq, not, Bool, List, [], ◌∷◌, length, Some, None, IsSome, IsTrue, unwrap_or, filter, map}
+use Rattle.std.specs.Prelude.{◌≡◌, ◌≢◌, ℕ, ◌+◌, ◌<◌, ◌≤◌, ◌==◌, ◌&&◌, ◌||◌, nat_eq, not, Bool, false, List, [], ◌∷◌, length, Some, None, IsSome, IsTrue, unwrap_or, filter, map}
 use Rattle.std.specs.List.{range_with_len, AllByRecursion, IsDistinct}
 use Rattle.std.specs.FinMap.{empty, get, insert, contains_key}
 use Rattle.nesc_base.specs.declared.block.Block.{Block}
@@ -32,6 +32,10 @@ pub record HasName (files : Files) (name : List ℕ) (n : ℕ) (file : File) : T
   pub stands : get files n ≡ Some file
   pub named : file.name ≡ name
 
+-- a file has this name
+abbrev pub IsNamed : Files → List ℕ → Type 0
+IsNamed files name = (n : ℕ) × (file : File) × HasName files name n file
+
 -- no file has this name
 abbrev pub IsUnnamed : Files → List ℕ → Type 0
 IsUnnamed files name = (n : ℕ) (file : File) → get files n ≡ Some file → file.name ≢ name
@@ -49,23 +53,22 @@ pub record IsLowestUnused (files : Files) (n : ℕ) : Type 0 where
 
 -- Changes
 
--- a change of files: a file is made, or a file comes to hold blocks, or a held block is written
+-- a change of files: a file is made under a number, or a file comes to hold blocks, or a held block is written
 pub data Change : Type 0 where
-  create : (name : List ℕ) (length : ℕ) → Change
+  create : (n : ℕ) (name : List ℕ) (length : ℕ) → Change
   hold : (n : ℕ) (blocks : List ℕ) → Change
   put : (n v : ℕ) (block : Block) → Change
 
 -- a file that is made has a name and is not too long
 abbrev pub MayChange : Change → Type 0
-MayChange (create name length) = IsTrue (is_name name) × (length ≤ longest_file)
+MayChange (create n name length) = IsTrue (is_name name) × (length ≤ longest_file)
 MayChange change = Unit {0}
 
 -- the lowest unused number gets the file, which holds nothing
-pub record Creates (old : Files) (name : List ℕ) (length : ℕ) (new : Files) : Type 0 where
-  pub number : ℕ
+pub record Creates (old : Files) (n : ℕ) (name : List ℕ) (length : ℕ) (new : Files) : Type 0 where
   pub unnamed : IsUnnamed old name
-  pub lowest : IsLowestUnused old number
-  pub result : new ≡ insert old number (record { name = name; length = length; body = empty })
+  pub lowest : IsLowestUnused old n
+  pub result : new ≡ insert old n (record { name = name; length = length; body = empty })
 
 -- the body with a block of zeros at each of these places
 abbrev pub with_zeros : Body → List ℕ → Body
@@ -90,11 +93,36 @@ pub record Puts (old : Files) (n v : ℕ) (block : Block) (new : Files) : Type 0
 
 -- the change leads from the old files to the new ones, and nothing else moves
 abbrev pub Changes : Files → Change → Files → Type 0
-Changes old (create name length) new = Creates old name length new
+Changes old (create n name length) new = Creates old n name length new
 Changes old (hold n blocks) new = Holds old n blocks new
 Changes old (put n v block) new = Puts old n v block new
 
--- one block after another is put, from v on
-abbrev pub PutsEach : Files → ℕ → ℕ → List Block → Files → Type 0
-PutsEach old n v [] new = new ≡ old
-PutsEach old n v (block ∷ blocks) new = (next : Files) × Changes old (put n v block) next × PutsEach next n (v + 1) blocks new
+-- Lists of changes
+
+-- the changes lead from the old files to the new ones, one after another
+abbrev pub LeadsTo : Files → List Change → Files → Type 0
+LeadsTo old [] new = new ≡ old
+LeadsTo old (change ∷ changes) new = (next : Files) × Changes old change next × LeadsTo next changes new
+
+-- file n comes to hold these blocks, if there are any
+abbrev pub holding : ℕ → List ℕ → List Change
+holding n [] = []
+holding n (v ∷ blocks) = hold n (v ∷ blocks) ∷ []
+
+-- the blocks are put one after another, from v on
+abbrev pub puts_from : ℕ → ℕ → List Block → List Change
+puts_from n v [] = []
+puts_from n v (block ∷ blocks) = put n v block ∷ puts_from n (v + 1) blocks
+
+-- one of the changes puts this block
+abbrev pub is_put : ℕ → ℕ → List Change → Bool
+is_put n v [] = false
+is_put n v (put m at block ∷ changes) = (m == n && at == v) || is_put n v changes
+is_put n v (change ∷ changes) = is_put n v changes
+
+-- how many blocks the changes stage: each that comes to be held and each that is put, one that is both once
+abbrev pub staged : List Change → ℕ
+staged [] = 0
+staged (create n name length ∷ changes) = staged changes
+staged (hold n blocks ∷ changes) = length (filter (λ v. not (is_put n v changes)) blocks) + staged changes
+staged (put n v block ∷ changes) = 1 + staged changes

@@ -1,8 +1,8 @@
 -- What a function, the device of one guest, is at a moment, and which function is served next.
-use Rattle.std.specs.Prelude.{ℕ, ◌+◌, ◌-◌, not, ◌&&◌, ◌==◌, Bool, true, false, List, [], ◌∷◌, ◌++◌, length, Option, Some, None, is_none}
+use Rattle.std.specs.Prelude.{◌≡◌, ℕ, ◌+◌, ◌-◌, not, ◌&&◌, ◌==◌, Bool, true, false, List, [], ◌∷◌, ◌++◌, length, Option, Some, None, is_none, unwrap_or}
 use Rattle.std.specs.List.{find, list_any, range_with_len}
 use Rattle.std.specs.Option.{option_and_then, option_map_or}
-use Rattle.nesc_requests.specs.Script.{numbered}
+use Rattle.nesc_requests.specs.Script.{numbered, with_numbered}
 use Rattle.nesc_requests.specs.declared.request.Miss.{Miss}
 use Rattle.nesc_requests.specs.declared.request.Queued.{Queued}
 
@@ -29,13 +29,23 @@ fresh file = record { file = file; queue = []; done = 0; waiting = None }
 
 -- Functions, numbered from 1
 
+-- the function of a number; where there is none, one that is off
+abbrev pub function_of : List Function → ℕ → Function
+function_of functions f = unwrap_or (numbered functions f) off
+
+-- the function of a number becomes another in this way, and the others stay
+pub record Becomes (way : Function → Function → Type 0) (f : ℕ) (old new : List Function) : Type 0 where
+  pub after : Function
+  pub becomes : way (function_of old f) after
+  pub others : new ≡ with_numbered old f after
+
 -- what the function of a number has
 abbrev pub attached_of : List Function → ℕ → Option Attached
 attached_of functions f = option_and_then (λ function. function.attached) (numbered functions f)
 
--- what the function of a number is waiting for
-abbrev pub waiting_of : List Function → ℕ → Option Miss
-waiting_of functions f = option_and_then (λ attached. attached.waiting) (attached_of functions f)
+-- what a function is waiting for
+abbrev pub waiting_of : Function → Option Miss
+waiting_of function = option_and_then (λ attached. attached.waiting) function.attached
 
 -- there is a function of this number, and it has no file
 abbrev pub is_off : List Function → ℕ → Bool

@@ -1,40 +1,40 @@
 -- A handling: the host holds the blocks that a function waits for.
-use Rattle.std.specs.Prelude.{◌≡◌, ℕ, nat_lt, List, [], ◌∷◌, length, filter, Some, None}
+use Rattle.std.specs.Prelude.{◌≡◌, ℕ, nat_lt, List, [], length, filter, take, Option, Some, None}
+use Rattle.nesc_base.specs.declared.numbers.FnNo.{FnNo}
 use Rattle.nesc_requests.specs.declared.request.Miss.{Miss}
+use Rattle.nesc_requests.specs.declared.request.Reply.{Reply}
 use Rattle.nesc_base.specs.Files.{File, Files, file_at}
-use Rattle.file_model.specs.Files.{Changes, hold, unheld}
-use Rattle.nesc_requests.specs.Script.{numbered, with_numbered}
+use Rattle.file_model.specs.Files.{Change, holding, unheld}
 use Rattle.file_model.specs.Functions.{Attached, Function, waiting_of}
-use Rattle.file_model.specs.State.{State}
-use Rattle.file_model.specs.declared.line.Handled.{Handled}
-use Rattle.file_model.specs.declared.line.Handled.TheVariants as handled
+use Rattle.file_model.specs.declared.outcome.Handled.{Handled}
+use Rattle.file_model.specs.declared.outcome.Handled.TheVariants as handled
 
 -- those of the blocks of a miss that lie below the length and are not held, in rising order
 abbrev pub wanted : File → Miss → List ℕ
 wanted file miss = filter (λ at. nat_lt at file.length) (unheld file miss.v miss.n)
 
--- the file comes to hold these blocks, which may be none
-abbrev pub HoldsAll : Files → ℕ → List ℕ → Files → Type 0
-HoldsAll old n [] new = new ≡ old
-HoldsAll old n (v ∷ blocks) new = Changes old (hold n (v ∷ blocks)) new
-
--- all that the function waits for is held, and it is ready
-pub record HandlesMiss (old : State) (f many : ℕ) (new : State) : Type 0 where
-  pub function : Function
-  pub stands : numbered old.functions f ≡ Some function
+-- the function waited; the first so many of the blocks that it wants are held; and it is ready
+pub record HoldsFirst (files : Files) (old : Function) (count : ℕ) (reply : Option Reply) (changes : List Change) (new : Function) : Type 0 where
   pub attached : Attached
-  pub on : function.attached ≡ Some attached
+  pub on : old.attached ≡ Some attached
   pub miss : Miss
   pub waits : attached.waiting ≡ Some miss
-  pub files : Files
-  pub holds : HoldsAll old.now attached.file (wanted (file_at old.now attached.file) miss) files
-  pub count : many ≡ length (wanted (file_at old.now attached.file) miss)
-  pub result : new ≡ record old {
-    now = files;
-    functions = with_numbered old.functions f (record function { attached = Some (record attached { waiting = None }) });
-  }
+  pub holds : changes ≡ holding attached.file (take count (wanted (file_at files attached.file) miss))
+  pub silent : reply ≡ None
+  pub result : new ≡ record old { attached = Some (record attached { waiting = None }) }
 
--- the host looks at what the function of this number waits for
-abbrev pub Handles : State → ℕ → Handled → State → Type 0
-Handles old f handled.None new = (waiting_of old.functions f ≡ None) × (new ≡ old)
-Handles old f (handled.Held count) new = HandlesMiss old f count new
+-- what a handling with this answer does for function f, over these files
+abbrev pub Handles : Files → FnNo → Function → Handled → Option Reply → List Change → Function → Type 0
+Handles files f old handled.None reply changes new = (waiting_of old ≡ None) × (reply ≡ None) × (changes ≡ []) × (new ≡ old)
+Handles files f old (handled.Held count) reply changes new = HoldsFirst files old count reply changes new
+
+-- how many blocks are held: all that are wanted
+abbrev pub HasCount : File → Miss → Handled → Type 0
+HasCount file miss (handled.Held count) = count ≡ length (wanted file miss)
+HasCount file miss other = Unit {0}
+
+-- so it is for what a function waits for, over these files
+abbrev pub CountsWanted : Files → Function → Handled → Type 0
+CountsWanted files function handled =
+    (attached : Attached) (miss : Miss) → function.attached ≡ Some attached → attached.waiting ≡ Some miss
+    → HasCount (file_at files attached.file) miss handled

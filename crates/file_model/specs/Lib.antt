@@ -1,6 +1,9 @@
 pub mod Codes
+pub mod Draws
 pub mod Files
 pub mod Functions
+pub mod Given
+pub mod Groups
 pub mod Handlings
 pub mod HostCommands
 pub mod Laws
@@ -12,3 +15,4 @@ pub mod PlainFiles
 pub mod State
 pub mod Submissions
 pub mod Ticks
+pub mod Traces

@@ -1,8 +1,8 @@
 -- The state of the plain machine.
-use Rattle.std.specs.Prelude.{ℕ, List, length, replicate}
-use Rattle.nesc_requests.specs.Script.{Script}
+use Rattle.std.specs.Prelude.{ℕ, List, replicate}
 use Rattle.nesc_base.specs.Files.{Files}
 use Rattle.file_model.specs.Functions.{Function, off}
+use Rattle.file_model.specs.declared.setting.Setting.{Setting}
 
 pub record State : Type 0 where
   -- the files after the steps so far, and as they were kept last
@@ -11,22 +11,15 @@ pub record State : Type 0 where
   -- each function, numbered from 1, and the number of the one that was served last, or 0
   pub functions : List Function
   pub last : ℕ
-  -- how many requests may wait for one function
-  pub depth : ℕ
-  -- how many blocks were staged since the last commit
+  -- how many blocks were staged since the files were kept
   pub count : ℕ
-  -- what is left to give
-  pub script : Script
 
--- The machine before its first step: these files, which were kept last, all functions off, one for each guest, and all
--- is left.
-abbrev pub start : Files → ℕ → Script → State
-start files depth script = record {
+-- The machine before its first step: these files, which were kept last, and all functions off.
+abbrev pub start : Setting → Files → State
+start setting files = record {
   now = files;
   kept = files;
-  functions = replicate (length script.guests) off;
+  functions = replicate setting.machine.functions off;
   last = 0;
-  depth = depth;
   count = 0;
-  script = script;
 }

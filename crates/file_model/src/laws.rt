@@ -1,10 +1,10 @@
 ghost use Rattle.std.specs.FinMap.{empty};
-ghost use Rattle.nesc_requests.specs.declared.host.HostCommand.{HostCommand};
-ghost use Rattle.nesc_requests.specs.declared.word.Word.{Word};
+ghost use Rattle.nesc_requests.specs.declared.event.Event.{Event};
 ghost use Rattle.nesc_base.specs.Files.{IsFileSet};
 ghost use Rattle.file_model.specs.Files.{Change};
-ghost use Rattle.file_model.specs.Laws.{HasOneAnswer, HasOneStep, IsAnswered, IsNeverStuck, KeepsFileSets, KeepsSets};
+ghost use Rattle.file_model.specs.Laws.{HasOneStep, HasStep, IsNeverStuck, KeepsFileSets, KeepsSets};
 ghost use Rattle.file_model.specs.State.{State};
+ghost use Rattle.file_model.specs.declared.setting.Setting.{Setting};
 
 /// No files are files as they may be, and each change leaves them so.
 pub fn file_sets_stay()
@@ -12,27 +12,23 @@ pub fn file_sets_stay()
     ensures changes { (change : Change) → KeepsFileSets change }
 {}
 
-/// So does each step, whatever word it takes, where what the host asks for is within the limits.
+/// So does each step, whatever event comes, where what the host asks for is within the limits.
 pub fn file_sets_stay_in_steps()
-    ensures { (word : Word) → KeepsSets word }
+    ensures { (event : Event) → KeepsSets event }
 {}
 
-/// The definition leaves no choice: the host is answered what the files say, and they become what the command says.
-pub fn one_answer()
-    ensures { (command : HostCommand) → HasOneAnswer command }
-{}
-
-/// Nor does a step leave a choice: each word is told by one group of lines, and leaves one state.
+/// The definition leaves no choice but how many nodes are fetched: each event makes one list of changes, comes to one
+/// outcome, and leaves one state.
 pub fn one_step()
-    ensures { (word : Word) → HasOneStep word }
+    ensures { (event : Event) → HasOneStep event }
 {}
 
-/// Whatever the host asks of whatever files, the definition has an answer and a result for it.
-pub fn every_command_is_answered()
-    ensures { (command : HostCommand) → IsAnswered command }
+/// Whatever event comes to whatever state, the definition has a step for it.
+pub fn every_event_has_a_step()
+    ensures { (event : Event) → HasStep event }
 {}
 
-/// The plain machine is never stuck: from every state, every schedule has a run.
+/// The plain machine is never stuck: from every state on, every schedule has a trace over every script.
 pub fn every_run_goes_on()
-    ensures { (old : State) → IsNeverStuck old }
+    ensures { (setting : Setting) (old : State) → IsNeverStuck setting old }
 {}

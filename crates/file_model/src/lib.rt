@@ -3,17 +3,18 @@
 
 mod host;
 mod laws;
-mod line;
+mod outcome;
 mod plain_file;
 mod plain_files;
+mod setting;
 
 pub use laws::{
-    every_command_is_answered, every_run_goes_on, file_sets_stay, file_sets_stay_in_steps,
-    one_answer, one_step,
+    every_event_has_a_step, every_run_goes_on, file_sets_stay, file_sets_stay_in_steps, one_step,
 };
-pub use line::{Handled, How, Line, Submission};
+pub use outcome::{Answer, Handled, How, Outcome};
 pub use plain_file::PlainFile;
 pub use plain_files::PlainFiles;
+pub use setting::Setting;
 
 #[cfg(test)]
 mod tests;

@@ -2,7 +2,7 @@ ghost use Rattle.std.specs.Prelude.{◌≡◌, ◌+◌, ◌-◌, ◌^◌, ◌<�
 ghost use Rattle.std.specs.FinMap as map;
 ghost use Rattle.std.specs.Option.{option_copied};
 ghost use Rattle.nesc_base.specs.Files.{IsFileSet, longest_file};
-ghost use Rattle.file_model.specs.Files.{Changes, HasName, IsFull, IsLowestUnused, IsUnnamed, PutsEach, create, hold, put, unheld};
+ghost use Rattle.file_model.specs.Files.{Changes, HasName, IsFull, IsLowestUnused, IsUnnamed, LeadsTo, create, hold, put, puts_from, unheld};
 ghost use Rattle.file_model.specs.PlainFiles.{AreHeld};
 
 use crate::PlainFile;
@@ -89,7 +89,7 @@ impl PlainFiles {
         requires unnamed { IsUnnamed self.old name }
         requires lowest { IsLowestUnused self.old number.0 }
         requires short { len ≤ longest_file }
-        ensures ok { OnOk result (Changes self.old (create name len) self.new) }
+        ensures ok { OnOk result (Changes self.old (create number.0 name len) self.new) }
         ensures err { OnErr result (self.new ≡ self.old) }
     {
         self.files
@@ -120,7 +120,7 @@ impl PlainFiles {
     pub fn put_each(&mut self, number: FileNo, v: u32, blocks: &Blocks)
         requires fits { v + length blocks.now < 2 ^ 32 }
         requires held { AreHeld self.old number.0 v (length blocks.now) }
-        ensures { PutsEach self.old number.0 v blocks.now self.new }
+        ensures { LeadsTo self.old (puts_from number.0 v blocks.now) self.new }
     {
         for k in 0..blocks.len() {
             self.put(number, v + k, &blocks.get(k));

@@ -95,9 +95,9 @@ gate_clash image place opened closed = false≢true (sym (closed opened.geometry
 -- there is one cause, and the image does not open as it is
 pub turned_down_once : (image : List Block) → IsTurnedDownOnce image
 turned_down_once image fault down = (
-  λ files opens. ⊎_elim
-      (λ open_gate. gate_clash image open_gate.0 open_gate.1 (closed_here image opens.geometry opens.opens.divided opens.closed))
-      (λ refused. (opens_as_nothing image fault refused.0).0 opens.geometry files opens.places opens.opens) (cause_of image fault down),
+  λ geometry files opens. ⊎_elim
+      (λ open_gate. gate_clash image open_gate.0 open_gate.1 (closed_here image geometry opens.opens.divided opens.closed))
+      (λ refused. (opens_as_nothing image fault refused.0).0 geometry files opens.places opens.opens) (cause_of image fault down),
   λ other too. ⊎_elim
       (λ one. ⊎_elim
       (λ second. second.2 ∙ ap BadList (second.1.at ∙ sym one.1.at) ∙ sym one.2)

@@ -28,9 +28,8 @@ pub record MayAllOwn (geometry : Geometry) (entries : List (Option TableEntry)) 
   pub count : length owners ≡ 128 * map_blocks geometry
   pub each : (k : ℕ) (owner : Owner) → slice_get owners k ≡ Some (Some owner) → MayOwn (lengths_of entries) geometry.blocks k owner
 
--- the image opens as these files, and no slot is to be replayed
-pub record OpensAsItIs (image : List Block) (files : Files) : Type 0 where
-  pub geometry : Geometry
+-- the image is divided so and opens as these files, and no slot is to be replayed
+pub record OpensAsItIs (image : List Block) (geometry : Geometry) (files : Files) : Type 0 where
   pub places : Places
   pub opens : Opens image geometry files places
   pub closed : is_open (gate geometry image 1) ≡ false
@@ -56,4 +55,4 @@ IsTurnedDown image fault = IsRefused image fault × IsClosed image
 abbrev pub IsTurnedDownOnce : List Block → Type 0
 IsTurnedDownOnce image =
     (fault : ImageFault) → IsTurnedDown image fault
-    → ((files : Files) → ¬ OpensAsItIs image files) × ((other : ImageFault) → IsTurnedDown image other → other ≡ fault)
+    → ((geometry : Geometry) (files : Files) → ¬ OpensAsItIs image geometry files) × ((other : ImageFault) → IsTurnedDown image other → other ≡ fault)

@@ -1,6 +1,6 @@
 ghost use Rattle.std.specs.Prelude.{◌≡◌, ◌<◌, length};
 
-use crate::{MemDisk, MemSink, MemSource, SlowSink, SlowSource};
+use crate::{MemDisk, MemSink, MemSource};
 use nesc_base::{Block, Disk, DiskFault, ReadFault, Sink, Source, WriteFault};
 use std::test::Fail;
 
@@ -38,27 +38,6 @@ fn sink_takes_whole_pieces_and_fails_where_listed(rt: HostRuntime) -> Result<(),
     assert_eq!(rt; write(&mut sink, b"de"), Ok(2));
     assert_eq!(rt; sink.bytes(), b"abcde".as_slice());
     Ok(())
-}
-
-#[test]
-fn slow_source_gives_few_bytes(rt: HostRuntime) -> Result<(), Fail> {
-    let mut source = SlowSource::new(b"abc".to_vec(rt.alloc())?, 2);
-    let mut buffer = [0; 3];
-    assert_eq!(rt; read(&mut source, &mut buffer), Ok(2));
-    assert_eq!(rt; buffer, *b"ab\0");
-    assert_eq!(rt; read(&mut source, &mut buffer), Ok(1));
-    assert_eq!(rt; buffer, *b"cb\0");
-    assert_eq!(rt; read(&mut source, &mut buffer), Ok(0));
-    Ok(())
-}
-
-#[test]
-fn slow_sink_takes_few_bytes(rt: HostRuntime) {
-    let mut sink = SlowSink::new(rt.alloc(), 2);
-    assert_eq!(rt; write(&mut sink, b"abc"), Ok(2));
-    assert_eq!(rt; write(&mut sink, b""), Ok(0));
-    assert_eq!(rt; write(&mut sink, b"c"), Ok(1));
-    assert_eq!(rt; sink.bytes(), b"abc".as_slice());
 }
 
 fn filled(byte: u8) -> Block {

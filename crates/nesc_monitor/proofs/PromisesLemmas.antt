@@ -13,7 +13,7 @@ use Rattle.nesc_monitor.specs.Endings.{AtAnyMoment, Comes, IsCarriedOut, IsEarly
 use Rattle.nesc_monitor.specs.Making.{ComesOfMake}
 use Rattle.nesc_monitor.specs.Promises.{EveryCommand, OfMake, OfNoCommand, OfRun, OfRunReadWell}
 use Rattle.nesc_monitor.specs.Reading.{GivesTooMany, GivesWhole, Tells}
-use Rattle.nesc_monitor.specs.Running.{ComesOfRun}
+use Rattle.nesc_monitor.specs.Running.{ComesOfRun, IsLookedAtLast}
 use Rattle.nesc_monitor.specs.Starting.{StartsFrom}
 use Rattle.nesc_monitor.specs.Texts.{AreCommands, AreTaken, HasOneFailed, IsInTurn, IsSchedule, IsTakenFromFront, SaysNoScript, SaysNoWords}
 use Rattle.nesc_monitor.specs.Watched.{DiskNeverFell, HasBegun, HasDiskFailed, HasDiskWorked, HasFailed, HasTaken, HasTakenNothing, HasWorked, IsDiskUntouched, IsOnlyRead, NeverFell}
@@ -107,8 +107,8 @@ long_clash None after known long whole = known
 long_clash (Some bytes) after known long whole = omega (arith, long, whole.0)
 
 -- an image that is turned down was not opened
-image_clash : (disk : Known) (files : Files) → StartsFrom disk files → IsKnownRefused disk → ⊥
-image_clash disk files starts down = (turned_down_once disk.contents down.fault down.refused).0 files (starts.opens down.known)
+image_clash : (disk : Known) (geometry : Geometry) (files : Files) → StartsFrom disk geometry files → IsKnownRefused disk → ⊥
+image_clash disk geometry files starts down = (turned_down_once disk.contents down.fault down.refused).0 geometry files (starts.opens down.known)
 
 module _ (call : Call) where
   -- The command `run`
@@ -149,10 +149,21 @@ module _ (call : Call) where
   untouched Read runs early = runs.1
   untouched Write runs early = absurd early
 
+  looked_at_last : (ending : Ending) → Ran ending → status_of ending ≡ status.Memory → IsLookedAtLast call.commands call.schedule call.image
+  looked_at_last Memory runs memory = runs.1
+  looked_at_last Done runs memory = cc
+  looked_at_last Words runs memory = cc
+  looked_at_last Commands runs memory = cc
+  looked_at_last Schedule runs memory = cc
+  looked_at_last (Image fault) runs memory = cc
+  looked_at_last Device runs memory = cc
+  looked_at_last Read runs memory = cc
+  looked_at_last Write runs memory = cc
+
   runs_early : (ending : Ending) → Ran ending → IsEarly (status_of ending) → HasTakenNothing call.out
   runs_early Done runs early = absurd early
   runs_early Words runs early = runs.2
-  runs_early Memory runs early = runs.1
+  runs_early Memory runs early = runs.2
   runs_early Commands runs early = runs.2
   runs_early Schedule runs early = runs.2
   runs_early (Image fault) runs early = runs.2
@@ -163,16 +174,16 @@ module _ (call : Call) where
   carried_out : (ending : Ending) → Ran ending → AreKnownAccepted call → AreReadWell call → OpensKnown call.image.before → HasDiskWorked call.image → HasWorked call.out → IsCarriedOut (status_of ending) call.out
   carried_out Done runs texts well opens disk out = tt
   carried_out Words runs texts well opens disk out = absurd runs.0
-  carried_out Memory runs texts well opens disk out = runs.1
+  carried_out Memory runs texts well opens disk out = runs.2
   carried_out Commands runs texts well opens disk out = absurd (commands_clash call.commands.before texts.commands_known texts.commands runs.0.refused)
   carried_out Schedule runs texts well opens disk out = absurd (schedule_clash call.schedule.before texts.schedule_known texts.schedule runs.0.refused)
-  carried_out (Image fault) runs texts well opens disk out = absurd ((turned_down_once call.image.before.contents fault (runs.1 opens.known)).0 opens.files opens.opens)
+  carried_out (Image fault) runs texts well opens disk out = absurd ((turned_down_once call.image.before.contents fault (runs.1 opens.known)).0 opens.geometry opens.files opens.opens)
   carried_out Device runs texts well opens disk out = absurd (disk runs.1)
   carried_out Read runs texts well opens disk out = absurd (⊎_elim (λ failed. well.commands failed.0) (λ whole. well.schedule whole.1) runs.0)
   carried_out Write runs texts well opens disk out = absurd (out runs.1)
 
   image_refused : (ending : Ending) → Ran ending → AreKnownAccepted call → AreReadWell call → IsKnownRefused call.image.before → HasDiskWorked call.image → IsImageRefused (status_of ending)
-  image_refused Done runs texts well down disk = absurd (image_clash call.image.before runs.1.files runs.1.image_opens down)
+  image_refused Done runs texts well down disk = absurd (image_clash call.image.before runs.1.steps.geometry runs.1.steps.files runs.1.steps.image_opens down)
   image_refused Words runs texts well down disk = absurd runs.0
   image_refused Memory runs texts well down disk = tt
   image_refused Commands runs texts well down disk = absurd (commands_clash call.commands.before texts.commands_known texts.commands runs.0.refused)
@@ -180,7 +191,7 @@ module _ (call : Call) where
   image_refused (Image fault) runs texts well down disk = tt
   image_refused Device runs texts well down disk = absurd (disk runs.1)
   image_refused Read runs texts well down disk = absurd (⊎_elim (λ failed. well.commands failed.0) (λ whole. well.schedule whole.1) runs.0)
-  image_refused Write runs texts well down disk = absurd (image_clash call.image.before runs.2.files runs.2.image_opens down)
+  image_refused Write runs texts well down disk = absurd (image_clash call.image.before runs.2.steps.geometry runs.2.steps.files runs.2.steps.image_opens down)
 
   commands_refused : (ending : Ending) → Ran ending → Tells call.commands.before → SaysNoScript call.commands.before → AreReadWell call → IsInputRefused (status_of ending)
   commands_refused Done runs known none well = absurd (commands_clash call.commands.before known runs.0.commands_accepted none)
@@ -374,6 +385,7 @@ module _ (call : Call) where
           schedule_refused = λ refused. (subst Ran refused said.0).0;
           image_refused = λ fault refused. (subst Ran refused said.0).1;
           image_untouched = untouched ending said.0;
+          image_last = looked_at_last ending said.0;
           image_only_read = said.1;
           any_moment = subst Moment is moment;
           too_long = λ known long. ⊎_elim (λ untouched. untouched) (λ whole. absurd (long_clash call.commands.before call.commands.after known long whole)) (in_turn ending said.0);

@@ -1,5 +1,5 @@
 -- What the command `run` comes to, put together from what its parts say.
-use Rattle.std.proofs.Common.{inr, List}
+use Rattle.std.proofs.Common.{inl, inr, List}
 use Rattle.nesc_requests.specs.Script.{Script}
 use Rattle.nesc_requests.specs.declared.word.Word.{Word}
 use Rattle.nesc_monitor.specs.Running.{ComesOfRun}
@@ -14,7 +14,7 @@ pub ComesOfRun-refused : (ending : Ending) (commands schedule : Watched) (image 
     → ComesOfRun ending commands schedule image out
 ComesOfRun-refused Done commands schedule image out refused unasked same = absurd refused
 ComesOfRun-refused Words commands schedule image out refused unasked same = absurd refused
-ComesOfRun-refused Memory commands schedule image out refused unasked same = (refused, same)
+ComesOfRun-refused Memory commands schedule image out refused unasked same = (refused, inl unasked, same)
 ComesOfRun-refused Commands commands schedule image out refused unasked same = (refused, unasked, same)
 ComesOfRun-refused Schedule commands schedule image out refused unasked same = (refused, unasked, same)
 ComesOfRun-refused (Image fault) commands schedule image out refused unasked same = absurd refused
@@ -31,12 +31,12 @@ ComesOfRun-steps ending commands schedule image out script words one two read_on
     taken = record { commands_read = read_one; schedule_read = read_two; commands_accepted = (script, one); schedule_accepted = (words, two) }
 
     by_ending : (ending : Ending) → StartsAndTells ending image.before image.after script words out → ComesOfRun ending commands schedule image out
-    by_ending Done steps = (taken, record { files = steps.0; script = script; words = words; image_opens = steps.1; commands_say = one; schedule_says = two; trace = steps.2 })
+    by_ending Done steps = (taken, record { script = script; words = words; commands_say = one; schedule_says = two; steps = steps })
     by_ending Words steps = absurd steps
-    by_ending Memory steps = (inr read_one, steps)
+    by_ending Memory steps = (inr read_one, inr taken, steps)
     by_ending Commands steps = absurd steps
     by_ending Schedule steps = absurd steps
     by_ending (Image fault) steps = (taken, steps.0, steps.1)
     by_ending Device steps = (taken, steps.0, steps.1)
     by_ending Read steps = absurd steps
-    by_ending Write steps = (taken, steps.2, record { files = steps.0; script = script; words = words; image_opens = steps.1; commands_say = one; schedule_says = two; front = steps.3 })
+    by_ending Write steps = (taken, steps.0, record { script = script; words = words; commands_say = one; schedule_says = two; steps = steps.1 })

@@ -48,10 +48,11 @@ pub record AreKnownAccepted (call : Call) : Type 0 where
 -- It is known what the disk holds, and that opens as it is.
 pub record OpensKnown (disk : Known) : Type 0 where
   pub known : disk.tells ≡ true
+  pub geometry : Geometry
   pub files : Files
-  pub opens : OpensAsItIs disk.contents files
+  pub opens : OpensAsItIs disk.contents geometry files
 
--- It is known what the disk holds, and that opens as nothing.
+-- It is known what the disk holds, and that is refused.
 pub record IsKnownRefused (disk : Known) : Type 0 where
   pub known : disk.tells ≡ true
   pub fault : ImageFault

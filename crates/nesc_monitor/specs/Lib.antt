@@ -1,7 +1,6 @@
 pub mod Call
 pub mod Endings
 pub mod Making
-pub mod Pieces
 pub mod Promises
 pub mod Reading
 pub mod Running

@@ -10,13 +10,13 @@ use Rattle.nesc_monitor.specs.Call.{AreKnownAccepted, AreReadWell, Call, SaysNoC
 use Rattle.nesc_monitor.specs.Endings.{IsCarriedOut, IsEarly, IsImageRefused, IsInputRefused, IsOfMake, IsOfTexts, IsPastTexts, LeavesAsBefore, LeavesMade, error_line, status_of}
 use Rattle.nesc_monitor.specs.Making.{IsMade, made_text}
 use Rattle.nesc_monitor.specs.Reading.{GivesTooMany, Tells}
-use Rattle.nesc_monitor.specs.Running.{IsImageRefusedFor, WritesFront, WritesTrace}
+use Rattle.nesc_monitor.specs.Running.{IsImageRefusedFor, IsLookedAtLast, WritesFront, WritesTrace}
 use Rattle.nesc_monitor.specs.Texts.{AreCommands, AreCommandsRefused, HasOneFailed, IsInTurn, IsReadWhole, IsSchedule, IsScheduleRefused, IsTakenFromFront, SaysNoScript, SaysNoWords}
 use Rattle.nesc_monitor.specs.Watched.{DiskNeverFell, HasBegun, HasDiskFailed, HasDiskWorked, HasFailed, HasTaken, HasTakenNothing, HasWorked, IsDiskUntouched, IsOnlyRead, IsUntouched, NeverFell}
 use Rattle.nesc_monitor.specs.declared.ending.Ending.{Ending}
 use Rattle.nesc_monitor.specs.declared.ending.Ending.TheVariants as ending
 use Rattle.nesc_monitor.specs.declared.ending.Status.{Status}
-use Rattle.nesc_monitor.specs.declared.ending.Status.TheVariants.{Done, Words, Image, Device, Read, Write}
+use Rattle.nesc_monitor.specs.declared.ending.Status.TheVariants.{Done, Words, Memory, Image, Device, Read, Write}
 
 -- What holds of every command. The outcome is a status, and says besides which text is refused, and why an image is.
 pub record EveryCommand (status : Status) (outcome : Ending) (call : Call) : Type 0 where
@@ -71,6 +71,7 @@ pub record OfRun (status : Status) (outcome : Ending) (call : Call) : Type 0 whe
   -- the image
   pub image_refused : (fault : ImageFault) → outcome ≡ ending.Image fault → IsImageRefusedFor fault call.image.before
   pub image_untouched : IsOfTexts status → IsDiskUntouched call.image
+  pub image_last : status ≡ Memory → IsLookedAtLast call.commands call.schedule call.image
   pub image_only_read : IsOnlyRead call.image
   pub any_moment : LeavesAsBefore call.image.before call.image.after
   -- it follows

@@ -1,44 +1,42 @@
 -- What the command `run` comes to.
-use Rattle.std.specs.Prelude.{◌≡◌, true, List}
+use Rattle.std.specs.Prelude.{◌≡◌, ◌⊎◌, ℕ, true, List, Option}
+use Rattle.nesc_base.specs.Sink.{Appends}
+use Rattle.text_kit.specs.Known.{AppendsPrefix}
 use Rattle.nesc_base.specs.Disk.{Known}
-use Rattle.nesc_base.specs.Files.{Files}
 use Rattle.nesc_requests.specs.Script.{Script}
 use Rattle.nesc_requests.specs.declared.word.Word.{Word}
-use Rattle.file_model.specs.State.{start}
-use Rattle.script_lang.specs.Limits.{most_queued}
 use Rattle.image_layout.specs.declared.fault.ImageFault.{ImageFault}
 use Rattle.image_opening.specs.Parts.{IsTurnedDown}
-use Rattle.nesc_monitor.specs.Starting.{StartsFrom}
-use Rattle.nesc_monitor.specs.Steps.{TellsAll, TellsFront}
+use Rattle.nesc_monitor.specs.Starting.{StartsAndTellsBy}
 use Rattle.nesc_monitor.specs.Texts.{AreTaken, IsInTurn, AreRefusedFor, SaysScript, SaysWords}
 use Rattle.nesc_monitor.specs.Watched.{HasDiskFailed, HasFailed, HasTakenNothing, IsDiskUntouched, Watched, WatchedDisk}
 use Rattle.nesc_monitor.specs.declared.ending.Ending.{Ending}
 use Rattle.nesc_monitor.specs.declared.ending.Ending.TheVariants.{Done, Memory, Image, Device, Write}
 
--- The sink took the trace of a run of the plain machine, from the files as which the image opens, over what the two texts
--- say. What is said of the image, of a text and of the sink holds where that tells.
-pub record WritesTrace (commands schedule : Watched) (image : Known) (out : Watched) : Type 0 where
-  pub files : Files
+-- The sink took, in this way, the trace of a run of the plain machine from the files as which the image opens, over what the
+-- two texts say. What is said of the image, of a text and of the sink holds where that tells.
+pub record WritesBy (takes : Option (List ℕ) → Option (List ℕ) → List ℕ → Type 0) (commands schedule : Watched) (image : Known) (out : Watched) : Type 0 where
   pub script : Script
   pub words : List Word
-  pub image_opens : StartsFrom image files
   pub commands_say : SaysScript commands.before script
   pub schedule_says : SaysWords schedule.before words
-  pub trace : TellsAll (start files most_queued script) words out.before out.after
+  pub steps : StartsAndTellsBy takes image script words out
 
--- it took the first bytes of such a trace
-pub record WritesFront (commands schedule : Watched) (image : Known) (out : Watched) : Type 0 where
-  pub files : Files
-  pub script : Script
-  pub words : List Word
-  pub image_opens : StartsFrom image files
-  pub commands_say : SaysScript commands.before script
-  pub schedule_says : SaysWords schedule.before words
-  pub front : TellsFront (start files most_queued script) words out.before out.after
+-- it took all of such a trace, or the first bytes of one
 
--- where the disk tells what it holds, that opens as nothing, for this cause
+abbrev pub WritesTrace : Watched → Watched → Known → Watched → Type 0
+WritesTrace = WritesBy Appends
+
+abbrev pub WritesFront : Watched → Watched → Known → Watched → Type 0
+WritesFront = WritesBy AppendsPrefix
+
+-- where the disk tells what it holds, that is refused for this cause
 abbrev pub IsImageRefusedFor : ImageFault → Known → Type 0
 IsImageRefusedFor fault disk = disk.tells ≡ true → IsTurnedDown disk.contents fault
+
+-- the image is looked at once both texts are accepted
+abbrev pub IsLookedAtLast : Watched → Watched → WatchedDisk → Type 0
+IsLookedAtLast commands schedule image = IsDiskUntouched image ⊎ AreTaken commands schedule
 
 -- What it comes to: the two sources, the image and the sink. The image is opened once both texts are accepted, so where
 -- they were refused nothing was asked of it.
@@ -47,5 +45,5 @@ ComesOfRun Done commands schedule image out = AreTaken commands schedule × Writ
 ComesOfRun Write commands schedule image out = AreTaken commands schedule × HasFailed out × WritesFront commands schedule image.before out
 ComesOfRun (Image fault) commands schedule image out = AreTaken commands schedule × IsImageRefusedFor fault image.before × HasTakenNothing out
 ComesOfRun Device commands schedule image out = AreTaken commands schedule × HasDiskFailed image × HasTakenNothing out
-ComesOfRun Memory commands schedule image out = IsInTurn commands schedule × HasTakenNothing out
+ComesOfRun Memory commands schedule image out = IsInTurn commands schedule × IsLookedAtLast commands schedule image × HasTakenNothing out
 ComesOfRun other commands schedule image out = AreRefusedFor other commands schedule × IsDiskUntouched image × HasTakenNothing out

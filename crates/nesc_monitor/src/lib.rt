@@ -3,11 +3,9 @@
 
 mod ending;
 mod monitor;
-mod pieces;
 mod reading;
 mod steps;
 mod texts;
-mod trace;
 mod words;
 
 pub use ending::Status;

@@ -10,44 +10,46 @@ ghost use Rattle.text_kit.specs.Writes.{Writes};
 ghost use Rattle.image_tools.specs.Make.{OpensWhereMade};
 ghost use Rattle.script_lang.specs.CommandsText.{blocks_in_all};
 ghost use Rattle.script_lang.specs.Limits.{most_blocks};
-ghost use Rattle.nesc_session.specs.Session.{IsReady, state_of};
+ghost use Rattle.nesc_requests.specs.Machine.{IsMachine};
+ghost use Rattle.nesc_session.specs.Session.{IsReadyFor, state_of};
 ghost use Rattle.nesc_monitor.specs.Endings.{AtAnyMoment, Comes, LeavesMade};
 ghost use Rattle.nesc_monitor.specs.Making.{ComesOfMake};
 ghost use Rattle.nesc_monitor.specs.Promises.{Promises};
 ghost use Rattle.nesc_monitor.specs.Running.{ComesOfRun};
 ghost use Rattle.nesc_monitor.specs.Starting.{StartsAndTells};
-ghost use Rattle.nesc_monitor.specs.Steps.{TellsAll, TellsFront};
+ghost use Rattle.nesc_monitor.specs.Steps.{TellsAll, TellsFront, room_for_script};
 ghost use Rattle.nesc_monitor.specs.Texts.{IsTakenFromFront};
 ghost use Rattle.nesc_monitor.specs.Watched.{watch, watch_disk};
 ghost use Rattle.nesc_monitor.specs.Words.{command_of};
 
 use crate::ending::{Ending, Status};
-use crate::pieces::{Piece, write_pieces};
-use crate::steps::take_steps;
+use crate::steps::take_words;
 use crate::texts::{Accepted, read_script};
 use crate::words::{Command, read_words};
 use image_layout::ImageFault;
 use image_tools::{MakeFault, make};
 use nesc_base::{Disk, Geometry, Sink, Source, WriteFault};
 use nesc_session::Session;
-use script_lang::Schedule;
+use script_lang::{Commands, Schedule};
 use std::alloc::Global;
 use text_kit::{Buffer, Buffered};
+use trace_text::{Piece, write_pieces};
 
 /// Writes the trace of all steps, and hands on what is still gathered of it.
 fn write_trace<K: Sink>(
     session: &mut Session,
+    commands: &mut Commands,
     schedule: &mut Schedule,
     buffered: &mut Buffered<'_, K>,
 ) -> Result<(), WriteFault>
-    requires room { IsReady session.old }
+    requires ready { IsReadyFor (room_for_script commands.old.script) session.old }
     requires empty { pending_of buffered.old ≡ [] }
-    ensures all { (kept : Files) → OnOk result (TellsAll (state_of kept session.old) schedule.old (K.taken (sink_of buffered.old)) (K.taken (sink_of buffered.new))) }
-    ensures front { (kept : Files) → TellsFront (state_of kept session.old) schedule.old (K.taken (sink_of buffered.old)) (K.taken (sink_of buffered.new)) }
+    ensures all { (kept : Files) → OnOk result (TellsAll session.old.setting (state_of kept 0 session.old) commands.old.script schedule.old (K.taken (sink_of buffered.old)) (K.taken (sink_of buffered.new))) }
+    ensures front { (kept : Files) → TellsFront session.old.setting (state_of kept 0 session.old) commands.old.script schedule.old (K.taken (sink_of buffered.old)) (K.taken (sink_of buffered.new)) }
     ensures lent { lent_name buffered.new ≡ lent_name buffered.old }
     ensures cause { HasCause (K.faults (sink_of buffered.old)) (K.faults (sink_of buffered.new)) (IsErr result) }
 {
-    match take_steps(session, schedule, buffered) {
+    match take_words(session, commands, schedule, buffered) {
         Ok(()) => buffered.flush(),
         Err(fault) => Err(fault),
     }
@@ -56,17 +58,22 @@ fn write_trace<K: Sink>(
 /// Writes the trace of all steps to a sink, which it gathers first.
 fn write_out<K: Sink>(
     session: &mut Session,
-    schedule: &mut Schedule,
+    accepted: &mut Accepted,
     buffer: &mut Buffer,
     out: &mut K,
 ) -> Result<(), WriteFault>
-    requires { IsReady session.old }
-    ensures all { (kept : Files) → OnOk result (TellsAll (state_of kept session.old) schedule.old (K.taken out.old) (K.taken out.new)) }
-    ensures front { (kept : Files) → TellsFront (state_of kept session.old) schedule.old (K.taken out.old) (K.taken out.new) }
+    requires { IsReadyFor (room_for_script accepted.old.commands.script) session.old }
+    ensures all { (kept : Files) → OnOk result (TellsAll session.old.setting (state_of kept 0 session.old) accepted.old.commands.script accepted.old.schedule (K.taken out.old) (K.taken out.new)) }
+    ensures front { (kept : Files) → TellsFront session.old.setting (state_of kept 0 session.old) accepted.old.commands.script accepted.old.schedule (K.taken out.old) (K.taken out.new) }
     ensures cause { HasCause (K.faults out.old) (K.faults out.new) (IsErr result) }
 {
     let mut buffered = Buffered::new(buffer, out);
-    write_trace(session, schedule, &mut buffered)
+    write_trace(
+        session,
+        &mut accepted.commands,
+        &mut accepted.schedule,
+        &mut buffered,
+    )
 }
 
 /// Opens the image, takes the steps of the accepted texts from its files on, and writes their trace.
@@ -76,25 +83,25 @@ fn open_and_step<D: Disk, K: Sink>(
     image: &mut D,
     out: &mut K,
 ) -> Ending
-    requires { blocks_in_all accepted.commands ≤ most_blocks }
-    ensures steps { StartsAndTells result (D.known image.old) (D.known image.new) accepted.commands accepted.schedule (watch K.taken K.faults out.old out.new) }
+    requires few { blocks_in_all accepted.commands.script ≤ most_blocks }
+    requires machine { IsMachine accepted.commands.script.machine }
+    ensures steps { StartsAndTells result (D.known image.old) (D.known image.new) accepted.commands.script accepted.schedule (watch K.taken K.faults out.old out.new) }
     ensures unchanged { Unchanged (D.known image.old) (D.known image.new) }
     ensures goes { Goes (D.known image.old) (D.known image.new) }
     ensures keeps { D.keeps image.old image.new }
     ensures never_fall { ((D.known image.old).faults ≤ (D.known image.new).faults) × (K.faults out.old ≤ K.faults out.new) }
 {
-    let Accepted {
-        commands,
-        mut schedule,
-    } = accepted;
+    let mut accepted = accepted;
     let Ok(mut buffer) = Buffer::new(alloc) else {
         return Ending::Memory;
     };
-    let mut session = match Session::begin(alloc, image, commands) {
+    let machine = accepted.commands.machine();
+    let more = accepted.commands.blocks() as u32;
+    let mut session = match Session::begin(alloc, machine, more, image) {
         Ok(session) => session,
         Err(fault) => return Ending::of_opening(fault),
     };
-    match write_out(&mut session, &mut schedule, &mut buffer, out) {
+    match write_out(&mut session, &mut accepted, &mut buffer, out) {
         Ok(()) => Ending::Done,
         Err(_) => Ending::Write,
     }

@@ -1,35 +1,79 @@
+//! A word of the schedule draws an event, which makes one step, and its lines are written.
+ghost use Rattle.std.specs.Prelude.{◌≡◌, ℕ, IfNone, IfSome};
 ghost use Rattle.nesc_base.specs.Files.{Files};
-ghost use Rattle.nesc_monitor.specs.Steps.{TakesSteps, TellsStep};
-ghost use Rattle.nesc_session.specs.Session.{IsReady, state_of};
+ghost use Rattle.file_model.specs.Draws.{event_of};
+ghost use Rattle.nesc_session.specs.Session.{IsReadyFor, MayStep, state_of};
+ghost use Rattle.nesc_monitor.specs.Steps.{ComesBack, MayGiveBack, TellsWord, TellsWords, room_for_script, with_back, without};
 
-use crate::trace::{write_done, write_outcome};
 use nesc_base::{Sink, WriteFault};
-use nesc_requests::Word;
-use nesc_session::Session;
-use script_lang::Schedule;
+use nesc_requests::{Event, Word};
+use nesc_session::{Answer, Session};
+use script_lang::{Commands, Schedule};
+use trace_text::{write_done, write_end, write_step};
 
-/// Takes one step, and then writes its lines.
-fn take_step<K: Sink>(session: &mut Session, word: Word, sink: &mut K) -> Result<(), WriteFault>
-    requires { IsReady session.old }
-    ensures told { (kept : Files) → TellsStep K.taken K.faults K.lent (state_of kept session.old) word (state_of kept session.new) sink.old sink.new result }
-    ensures room { IsReady session.new }
+/// The event that a word draws, or `None` where the host or the guest whose turn it is has nothing left to give.
+fn draw(commands: &mut Commands, word: Word) -> Option<Event>
+    ensures event { result ≡ event_of commands.old.script word }
+    ensures rest { IfSome result (λ event. commands.new.script ≡ without commands.old.script event) }
+    ensures none { IfNone result (commands.new ≡ commands.old) }
+    ensures out { IfSome result (λ event. MayGiveBack commands.new event) }
+    ensures fits { IfSome result MayStep }
 {
-    let outcome = session.step(word);
-    write_outcome(sink, &outcome)
+    match word {
+        Word::T => Some(Event::Tick),
+        Word::G(f) => Some(Event::Submit(f, commands.take_guest(f)?)),
+        Word::H => Some(Event::Host(commands.take_host()?)),
+        Word::I(f) => Some(Event::Handle(f)),
+    }
 }
 
-/// Takes the steps of a schedule, and writes the lines of each behind it and `done N` at the end.
-pub fn take_steps<K: Sink>(
+/// Gives a request that came back to its guest again.
+fn hand_back(commands: &mut Commands, word: Word, answer: Answer)
+    requires back { ComesBack commands.old word answer }
+    ensures { commands.new.script ≡ with_back commands.old.script word answer }
+{
+    if let Word::G(f) = word {
+        match answer {
+            Answer::Off(request) | Answer::Full(request) => commands.give_back(f, request),
+            _ => {}
+        }
+    }
+}
+
+/// Takes the step of a word, and then writes its lines.
+fn take_word<K: Sink>(
     session: &mut Session,
+    commands: &mut Commands,
+    word: Word,
+    sink: &mut K,
+) -> Result<(), WriteFault>
+    requires { IsReadyFor (room_for_script commands.old.script) session.old }
+    ensures told { (kept : Files) (count : ℕ) → (later : ℕ) × TellsWord K.taken K.faults K.lent session.old.setting (state_of kept count session.old) commands.old.script word (state_of kept later session.new) commands.new.script sink.old sink.new result }
+    ensures ready { IsReadyFor (room_for_script commands.new.script) session.new }
+    ensures same_setting { session.new.setting ≡ session.old.setting }
+{
+    let Some(event) = draw(commands, word) else {
+        return write_end(sink, word);
+    };
+    let outcome = session.step(event);
+    let told = write_step(sink, word, &outcome);
+    hand_back(commands, word, outcome.answer);
+    told
+}
+
+/// Takes the words of a schedule, and writes the lines of each behind it and `done N` at the end.
+pub fn take_words<K: Sink>(
+    session: &mut Session,
+    commands: &mut Commands,
     schedule: &mut Schedule,
     sink: &mut K,
 ) -> Result<(), WriteFault>
-    requires { IsReady session.old }
-    ensures { (kept : Files) → TakesSteps K.taken K.faults K.lent (state_of kept session.old) schedule.old sink.old sink.new result }
+    requires { IsReadyFor (room_for_script commands.old.script) session.old }
+    ensures { (kept : Files) → TellsWords K.taken K.faults K.lent session.old.setting (state_of kept 0 session.old) commands.old.script schedule.old sink.old sink.new result }
 {
     let steps = schedule.steps() as u64;
     while let Some(word) = schedule.word() {
-        take_step(session, word, sink)?;
+        take_word(session, commands, word, sink)?;
     }
     write_done(sink, steps)
 }

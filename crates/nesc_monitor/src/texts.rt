@@ -1,4 +1,5 @@
 ghost use Rattle.std.specs.Prelude.{◌≡◌, ◌≤◌, Some, length, IfErr, IfOk, OnOk};
+ghost use Rattle.nesc_requests.specs.Machine.{IsMachine};
 ghost use Rattle.script_lang.specs.CommandsText.{IsCommandsText, blocks_in_all};
 ghost use Rattle.script_lang.specs.Limits.{most_blocks};
 ghost use Rattle.script_lang.specs.ScheduleText.{schedule_of};
@@ -54,9 +55,10 @@ fn read_texts<S: Source>(alloc: Global, commands: &mut S, schedule: &mut S) -> R
 
 /// What the texts say. The commands are judged first.
 fn judge(alloc: Global, texts: &Texts) -> Result<Accepted, Ending>
-    ensures commands { IfOk result (λ accepted. IsCommandsText texts.now.commands.items accepted.commands) }
+    ensures commands { IfOk result (λ accepted. IsCommandsText texts.now.commands.items accepted.commands.script) }
     ensures schedule { IfOk result (λ accepted. schedule_of texts.now.schedule.items ≡ Some accepted.schedule) }
-    ensures few { IfOk result (λ accepted. blocks_in_all accepted.commands ≤ most_blocks) }
+    ensures few { IfOk result (λ accepted. blocks_in_all accepted.commands.script ≤ most_blocks) }
+    ensures machine { IfOk result (λ accepted. IsMachine accepted.commands.script.machine) }
     ensures refusal { IfErr result (λ ending. IsRefusal ending texts.now.commands.items texts.now.schedule.items) }
 {
     let commands = match read_commands(alloc, &texts.commands) {
@@ -78,10 +80,11 @@ pub fn read_script<S: Source>(
     commands: &mut S,
     schedule: &mut S,
 ) -> Result<Accepted, Ending>
-    ensures commands { IfOk result (λ accepted. SaysScript (S.left commands.old) accepted.commands) }
+    ensures commands { IfOk result (λ accepted. SaysScript (S.left commands.old) accepted.commands.script) }
     ensures schedule { IfOk result (λ accepted. SaysWords (S.left schedule.old) accepted.schedule) }
     ensures read { OnOk result (IsReadWhole (watch S.left S.faults commands.old commands.new) × IsReadWhole (watch S.left S.faults schedule.old schedule.new)) }
-    ensures few { IfOk result (λ accepted. blocks_in_all accepted.commands ≤ most_blocks) }
+    ensures few { IfOk result (λ accepted. blocks_in_all accepted.commands.script ≤ most_blocks) }
+    ensures machine { IfOk result (λ accepted. IsMachine accepted.commands.script.machine) }
     ensures refused { IfErr result (λ ending. AreRefusedFor ending
         (watch S.left S.faults commands.old commands.new)
         (watch S.left S.faults schedule.old schedule.new)) }

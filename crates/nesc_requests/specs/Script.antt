@@ -2,6 +2,7 @@
 use Rattle.std.specs.Prelude.{ℕ, zero, suc, ◌<◌, ◌≤◌, IsTrue, List, [], slice_get, slice_set, Option, None, unwrap_or}
 use Rattle.nesc_base.specs.Files.{longest_file}
 use Rattle.nesc_base.specs.Name.{is_name}
+use Rattle.nesc_requests.specs.declared.machine.Machine.{Machine}
 use Rattle.nesc_requests.specs.declared.host.HostCommand.{HostCommand}
 use Rattle.nesc_requests.specs.declared.host.HostCommand.TheVariants.{Create, Put, Get, Attach}
 use Rattle.nesc_requests.specs.declared.request.Request.{Request}
@@ -16,8 +17,9 @@ abbrev pub with_numbered : {A : Type 0} → List A → ℕ → A → List A
 with_numbered xs zero x = xs
 with_numbered xs (suc i) x = slice_set xs i x
 
--- the host's commands, and the requests of each guest, numbered from 1
+-- the numbers of the machine, the host's commands, and the requests of each guest, numbered from 1
 pub record Script : Type 0 where
+  pub machine : Machine
   pub host : List HostCommand
   pub guests : List (List Request)
 

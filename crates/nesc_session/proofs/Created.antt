@@ -98,9 +98,8 @@ module _ (blocks : FinMap place_cmp Block) (es : List (Option TableEntry)) {now 
     unheld filed = body_of-empty blocks (suc e) (λ p some of. false≢true (sym (ap (λ n. is_some (entry_at es n)) of ∙ ap is_some get-unused) ∙ filed p some))
 
     -- an entry at the first place that is not used makes the file of the lowest unused number
-    pub Creates-set : ((p : Place) → IsSome (get blocks p) → IsSome (entry_at es p.file.0)) → length es ≡ most_files → (entry : TableEntry) → IsUnnamed now.files entry.name → Creates now.files entry.name entry.length (files_of (slice_set es e (Some entry)) blocks)
+    pub Creates-set : ((p : Place) → IsSome (get blocks p) → IsSome (entry_at es p.file.0)) → length es ≡ most_files → (entry : TableEntry) → IsUnnamed now.files entry.name → Creates now.files (suc e) entry.name entry.length (files_of (slice_set es e (Some entry)) blocks)
     Creates-set filed all entry unnamed = record {
-      number = suc e;
       unnamed = unnamed;
       lowest = lowest all;
       result =

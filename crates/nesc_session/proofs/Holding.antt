@@ -8,8 +8,7 @@ use Rattle.std.specs.FinMap.{get, insert}
 use Rattle.nesc_base.specs.Block.{zero_block}
 use Rattle.nesc_base.specs.Files.{Body, File, Files, file_at}
 use Rattle.file_model.specs.Files.{holds, with_zeros}
-use Rattle.file_model.specs.Handlings.{HoldsAll}
-use Rattle.nesc_session.specs.FilesInMemory.{WritesBlocks}
+use Rattle.nesc_session.specs.FilesInMemory.{HoldsAll, WritesBlocks}
 use Rattle.nesc_session.proofs.Puts.{All-range, IsDistinct-range, none_from, get-with_zeros_other}
 use Rattle.nesc_session.proofs.Standing.{file_at-stands}
 use Rattle.nesc_session.proofs.Wanted.{is_wanted, wanted_from, wanted-fresh, wanted-held}

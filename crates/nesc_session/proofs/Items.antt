@@ -1,9 +1,10 @@
 -- The function of a number, by where it stands.
-use Rattle.std.proofs.Common.{◌∷◌, [], zero, ◌≡◌, ℕ, suc, ◌+◌, ◌<◌, true, false, List, length, Option, None, Some, slice_get, slice_index_or, slice_set, is_none, refl, sym, ap, ◌∙◌, arith}
+use Rattle.std.proofs.Common.{◌∷◌, [], zero, ◌≡◌, ℕ, suc, ◌+◌, ◌<◌, true, false, List, length, Option, None, Some, slice_get, slice_index_or, slice_set, is_none, refl, sym, ap, subst, ◌∙◌, arith}
 use Rattle.std.proofs.lemmas.Option.{none-some, same_Some, slice_get-get_or}
+use Rattle.std.specs.Option.{unwrap_or}
 use Rattle.std.specs.Option.{option_and_then, option_map_or}
 use Rattle.nesc_requests.specs.Script.{numbered, with_numbered}
-use Rattle.file_model.specs.Functions.{Function, attached_of, is_off, waiting_of}
+use Rattle.file_model.specs.Functions.{Becomes, Function, attached_of, function_of, is_off, off}
 
 module _ {A : Type 0} (xs : List A) (f i : ℕ) (is : f ≡ i + 1) where
   pub numbered-at : numbered xs f ≡ slice_get xs i
@@ -16,41 +17,60 @@ module _ (functions : List Function) (f i : ℕ) (is : f ≡ i + 1) (function : 
   pub numbered-item : numbered functions f ≡ Some function
   numbered-item = numbered-at functions f i is ∙ slice_get-get_or functions i function within ∙ ap Some (sym item)
 
+  pub function_of-item : function_of functions f ≡ function
+  function_of-item = ap (λ o. unwrap_or o off) numbered-item
+
   pub attached_of-item : attached_of functions f ≡ function.attached
   attached_of-item = ap (option_and_then (λ function. function.attached)) numbered-item
-
-  pub waiting_of-item : waiting_of functions f ≡ option_and_then (λ attached. attached.waiting) function.attached
-  waiting_of-item = ap (option_and_then (λ attached. attached.waiting)) attached_of-item
 
   pub is_off-item : is_off functions f ≡ is_none function.attached
   is_off-item = ap (λ o. option_map_or (λ function. is_none function.attached) o false) numbered-item
 
 -- where there is no such function
-pub attached_of-none : (functions : List Function) (f : ℕ) → numbered functions f ≡ None → attached_of functions f ≡ None
-attached_of-none functions f none = ap (option_and_then (λ function. function.attached)) none
+pub function_of-none : (functions : List Function) (f : ℕ) → numbered functions f ≡ None → function_of functions f ≡ off
+function_of-none functions f none = ap (λ o. unwrap_or o off) none
 
-pub waiting_of-none : (functions : List Function) (f : ℕ) → numbered functions f ≡ None → waiting_of functions f ≡ None
-waiting_of-none functions f none = ap (option_and_then (λ attached. attached.waiting)) (attached_of-none functions f none)
+set-none : {A : Type 0} (xs : List A) (i : ℕ) (x : A) → slice_get xs i ≡ None → slice_set xs i x ≡ xs
+set-none [] i x none = refl
+set-none (y ∷ xs) zero x none = cc
+set-none (y ∷ xs) (suc i) x none = ap (λ zs. y ∷ zs) (set-none xs i x none)
+
+pub with_numbered-none : {A : Type 0} (xs : List A) (f : ℕ) (x : A) → numbered xs f ≡ None → with_numbered xs f x ≡ xs
+with_numbered-none xs zero x none = refl
+with_numbered-none xs (suc i) x none = set-none xs i x none
 
 pub is_off-none : (functions : List Function) (f : ℕ) → numbered functions f ≡ None → is_off functions f ≡ false
 is_off-none functions f none = ap (λ o. option_map_or (λ function. is_none function.attached) o false) none
 
--- a function that is off has nothing
+-- what is none, and what is some
 pub none_from : {A : Type 0} (o : Option A) → is_none o ≡ true → o ≡ None
 none_from None none = refl
 none_from (Some x) none = cc
 
--- and one that is not has something
 pub some_from : {A : Type 0} (o : Option A) → is_none o ≡ false → (x : A) × (o ≡ Some x)
 some_from None some = cc
 some_from (Some x) some = (x, refl)
-
--- what stands at one place is one
-pub same-item : {A : Type 0} (xs : List A) (i : ℕ) (x y : A) → i < length xs → x ≡ slice_index_or xs i x → y ≡ slice_index_or xs i y → x ≡ y
-same-item xs i x y within is also = same_Some x y (ap Some is ∙ sym (slice_get-get_or xs i x within) ∙ slice_get-get_or xs i y within ∙ ap Some (sym also))
 
 -- the list with what stands there anyway
 pub set-same : {A : Type 0} (xs : List A) (i : ℕ) (x : A) → slice_get xs i ≡ Some x → slice_set xs i x ≡ xs
 set-same [] i x at = absurd (none-some x at)
 set-same (y ∷ xs) zero x at = ap (λ z. z ∷ xs) (sym (same_Some _ _ at))
 set-same (y ∷ xs) (suc i) x at = ap (λ zs. y ∷ zs) (set-same xs i x at)
+
+-- One function becomes another
+
+pub Becomes-item : (functions : List Function) (f i : ℕ) → f ≡ i + 1 → (item after : Function) → i < length functions → item ≡ slice_index_or functions i item → (way : Function → Function → Type 0)
+    → way item after → Becomes way f functions (slice_set functions i after)
+Becomes-item functions f i is item after within at way becomes = record {
+  after = after;
+  becomes = subst (λ (one : Function). way one after) (sym (function_of-item functions f i is item within at)) becomes;
+  others = sym (with_numbered-at functions f i is after);
+}
+
+-- there is none, and one that is off stays as it was
+pub Becomes-none : (functions : List Function) (f : ℕ) → numbered functions f ≡ None → (way : Function → Function → Type 0) → way off off → Becomes way f functions functions
+Becomes-none functions f none way becomes = record {
+  after = off;
+  becomes = subst (λ (one : Function). way one off) (sym (function_of-none functions f none)) becomes;
+  others = sym (with_numbered-none functions f off none);
+}

@@ -1,17 +1,14 @@
 -- What was held is held still, whatever happens to the files.
-use Rattle.std.proofs.Common.{◌≡◌, ℕ, ◌+◌, Bool, true, false, cond, eqb, List, [], ◌∷◌, Option, None, Some, IsSome, unwrap_or, is_some, refl, sym, ap, subst, ◌∙◌}
+use Rattle.std.proofs.Common.{◌≡◌, ℕ, Bool, true, false, cond, eqb, List, [], ◌∷◌, Option, None, Some, IsSome, unwrap_or, is_some, refl, sym, ap, subst, ◌∙◌}
 use Rattle.std.proofs.lemmas.Bool.{false≢true}
 use Rattle.std.specs.Ordering.{nat_cmp}
 use Rattle.std.specs.FinMap.{empty, get, get-empty, insert}
-use Rattle.nesc_base.specs.declared.block.Block.{Block}
 use Rattle.nesc_requests.specs.declared.host.HostCommand.{HostCommand}
-use Rattle.nesc_requests.specs.declared.host.HostCommand.TheVariants.{Create, Put, Get}
 use Rattle.nesc_requests.specs.declared.host.HostAnswer.{HostAnswer}
-use Rattle.nesc_requests.specs.declared.host.HostAnswer.TheVariants.{Ok, Exists, NoSlot, NoFile, Range, Got}
 use Rattle.nesc_base.specs.Files.{File, Files, file_at}
-use Rattle.file_model.specs.Files.{Change, Changes, PutsEach, create, hold, holds, put}
-use Rattle.file_model.specs.Handlings.{HoldsAll}
+use Rattle.file_model.specs.Files.{Change, Changes, LeadsTo, create, hold, holds, put}
 use Rattle.file_model.specs.HostCommands.{FileStep}
+use Rattle.nesc_session.specs.FilesInMemory.{HoldsAll}
 use Rattle.nesc_session.specs.Room.{KeepsHeld}
 use Rattle.nesc_session.proofs.Puts.{is_some-insert, is_some-with_zeros}
 use Rattle.nesc_session.proofs.Written.{get-insert_at, same_number}
@@ -50,32 +47,22 @@ KeepsHeld-stands old n old_file file stands is keeps =
     KeepsHeld-insert old n file is (λ v held. keeps v (sym (ap (λ o. holds_of o v) stands) ∙ held))
 
 pub KeepsHeld-Changes : (old new : Files) (change : Change) → Changes old change new → KeepsHeld old new
-KeepsHeld-Changes old new (create name length) creates =
-    KeepsHeld-insert old creates.number _ creates.result
+KeepsHeld-Changes old new (create n name length) creates =
+    KeepsHeld-insert old n _ creates.result
     (λ v held. absurd (false≢true (sym (holds_of-None _ v creates.lowest.unused) ∙ held)))
 KeepsHeld-Changes old new (hold n blocks) holding =
     KeepsHeld-stands old n holding.file _ holding.stands holding.result (λ v. is_some-with_zeros holding.file.body blocks v)
 KeepsHeld-Changes old new (put n v block) puts =
     KeepsHeld-stands old n puts.file _ puts.stands puts.result (λ at. is_some-insert puts.file.body v block at)
 
+KeepsHeld-LeadsTo : (old new : Files) (changes : List Change) → LeadsTo old changes new → KeepsHeld old new
+KeepsHeld-LeadsTo old new [] same = KeepsHeld-same same
+KeepsHeld-LeadsTo old new (change ∷ changes) leads =
+    KeepsHeld-then old leads.0 new (KeepsHeld-Changes old leads.0 change leads.1) (KeepsHeld-LeadsTo leads.0 new changes leads.2)
+
 pub KeepsHeld-HoldsAll : (old new : Files) (n : ℕ) (blocks : List ℕ) → HoldsAll old n blocks new → KeepsHeld old new
 KeepsHeld-HoldsAll old new n [] same = KeepsHeld-same same
 KeepsHeld-HoldsAll old new n (v ∷ blocks) holding = KeepsHeld-Changes old new (hold n (v ∷ blocks)) holding
 
-KeepsHeld-PutsEach : (old new : Files) (n v : ℕ) (blocks : List Block) → PutsEach old n v blocks new → KeepsHeld old new
-KeepsHeld-PutsEach old new n v [] same = KeepsHeld-same same
-KeepsHeld-PutsEach old new n v (block ∷ blocks) puts =
-    KeepsHeld-then old puts.0 new (KeepsHeld-Changes old puts.0 (put n v block) puts.1) (KeepsHeld-PutsEach puts.0 new n (v + 1) blocks puts.2)
-
 pub KeepsHeld-FileStep : (old new : Files) (command : HostCommand) (answer : HostAnswer) → FileStep old command answer new → KeepsHeld old new
-KeepsHeld-FileStep old new (Create name length) Ok creates = KeepsHeld-Changes old new (create name length) creates
-KeepsHeld-FileStep old new (Create name length) Exists refused = KeepsHeld-same refused.3
-KeepsHeld-FileStep old new (Create name length) NoSlot refused = KeepsHeld-same refused.2
-KeepsHeld-FileStep old new (Put name v blocks) Ok puts =
-    KeepsHeld-then old puts.held new (KeepsHeld-Changes old puts.held (hold puts.number _) puts.holds) (KeepsHeld-PutsEach puts.held new puts.number v blocks puts.puts)
-KeepsHeld-FileStep old new (Put name v blocks) NoFile refused = KeepsHeld-same refused.1
-KeepsHeld-FileStep old new (Put name v blocks) Range refused = KeepsHeld-same refused.1
-KeepsHeld-FileStep old new (Get name v into) NoFile refused = KeepsHeld-same refused.1
-KeepsHeld-FileStep old new (Get name v into) Range refused = KeepsHeld-same refused.1
-KeepsHeld-FileStep old new (Get name v into) (Got blocks) gets = KeepsHeld-same gets.1
-KeepsHeld-FileStep old new command answer refused = absurd refused
+KeepsHeld-FileStep old new command answer step = KeepsHeld-LeadsTo old new step.changes step.leads

@@ -1,6 +1,7 @@
 pub mod Created
 pub mod Filters
 pub mod Found
+pub mod Handling
 pub mod HeldIn
 pub mod Holding
 pub mod Items

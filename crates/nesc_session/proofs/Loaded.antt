@@ -255,14 +255,13 @@ whole_files image geometry entries owners files k all names held = record {
 -- the image opens as them
 pub opens_whole : (image : List Block) (geometry : Geometry) (entries : List (Option TableEntry)) (owners : List (Option Owner)) (files : Files) (k : ℕ)
     → AreParts image geometry entries owners → length owners ≤ k → KeepsNames (files_of entries empty) files → AreHeld geometry image (take k owners) files
-    → ((j : ℕ) (earlier : Owner) → j < k → ¬ Repeats owners j earlier) → OpensAsItIs image files
+    → ((j : ℕ) (earlier : Owner) → j < k → ¬ Repeats owners j earlier) → OpensAsItIs image geometry files
 opens_whole image geometry entries owners files k parts all names held first =
     let are_files : AreFiles geometry image entries owners files = whole_files image geometry entries owners files k all names held in
     let once : (j : ℕ) (owner : Owner) → ¬ Repeats owners j owner = λ j owner repeats.
     let within : j < length owners = slice_get_within owners j (Some owner) repeats.0 in
     first j owner (omega (arith, within, all)) repeats in
     record {
-      geometry = geometry;
       places = places_from geometry entries owners;
       opens = record {
         laid = image;

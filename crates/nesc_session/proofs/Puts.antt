@@ -1,5 +1,5 @@
 -- A put as the machine has it: the blocks that were not held are held with zeros first, and then each block is put.
-use Rattle.std.proofs.Common.{◌≡◌, ◌≢◌, ◌⊎◌, ⊎_elim, inl, inr, ℕ, zero, suc, ◌+◌, ◌<◌, ◌≤◌, Bool, true, false, cond, not, eqb, nat_eq, List, [], ◌∷◌, length, Option, None, Some, IsSome, is_some, refl, sym, ap, subst, ◌∙◌, arith}
+use Rattle.std.proofs.Common.{◌≡◌, ◌≢◌, ◌⊎◌, ⊎_elim, inl, inr, ℕ, zero, suc, ◌+◌, ◌<◌, ◌≤◌, Bool, true, false, cond, not, eqb, nat_eq, List, [], ◌∷◌, ◌++◌, length, Option, None, Some, IsSome, is_some, refl, sym, ap, subst, ◌∙◌, arith}
 use Rattle.std.proofs.lemmas.Bool.{false≢true, cases_eq, cases_lt}
 use Rattle.std.proofs.lemmas.Bool.Decides.{nat_tests}
 use Rattle.std.proofs.lemmas.Option.{same_Some}
@@ -9,8 +9,11 @@ use Rattle.std.specs.FinMap.{get, insert, nat_cmp-IsAntisymmetric, same_map}
 use Rattle.nesc_base.specs.declared.block.Block.{Block}
 use Rattle.nesc_base.specs.Block.{zero_block}
 use Rattle.nesc_base.specs.Files.{Body, File, Files, file_at}
-use Rattle.file_model.specs.Files.{HasName, holds, unheld, with_zeros, Puts, PutsEach}
-use Rattle.file_model.specs.HostCommands.{PutsBlocks}
+use Rattle.nesc_requests.specs.declared.host.HostCommand.TheVariants.{Put}
+use Rattle.nesc_requests.specs.declared.host.HostAnswer.TheVariants.{Ok}
+use Rattle.file_model.specs.Files.{HasName, Holds, LeadsTo, Puts, holding, holds, puts_from, unheld, with_zeros}
+use Rattle.file_model.specs.HostCommands.{FileStep}
+use Rattle.file_model.proofs.Writing.{leads_holding, leads_then}
 use Rattle.nesc_session.specs.FilesInMemory.{with_blocks, WritesBlocks}
 use Rattle.nesc_session.proofs.Numbered.{eqb_apart}
 use Rattle.nesc_session.proofs.Standing.{file_at-stands}
@@ -95,13 +98,14 @@ with_blocks_agree (b ∷ bs) v one other agree = with_blocks_agree bs (v + 1) (i
         at false e = agree q (⊎_elim (λ low. inl (below_other q v low e)) (λ high. inr (omega arith)) outside)
 
 -- where each block of a run is held, one after another is put
-pub PutsEach-with_blocks : (files : Files) (n v : ℕ) (blocks : List Block) (file : File) → get files n ≡ Some file → ((q : ℕ) → v ≤ q → q < v + length blocks → IsSome (get file.body q)) → PutsEach files n v blocks (insert files n (record file { body = with_blocks file.body v blocks }))
-PutsEach-with_blocks files n v [] file stands held = insert_there files n file stands
-PutsEach-with_blocks files n v (b ∷ bs) file stands held = (
+pub puts-with_blocks : (files : Files) (n v : ℕ) (blocks : List Block) (file : File) → get files n ≡ Some file → ((q : ℕ) → v ≤ q → q < v + length blocks → IsSome (get file.body q))
+    → LeadsTo files (puts_from n v blocks) (insert files n (record file { body = with_blocks file.body v blocks }))
+puts-with_blocks files n v [] file stands held = insert_there files n file stands
+puts-with_blocks files n v (b ∷ bs) file stands held = (
   next,
   record { file = file; stands = stands; held = held v (omega arith) (omega arith); result = refl },
-  subst (PutsEach next n (v + 1) bs) (insert-insert files n with_block _)
-      (PutsEach-with_blocks next n (v + 1) bs with_block (get-insert_same files n with_block)
+  subst (LeadsTo next (puts_from n (v + 1) bs)) (insert-insert files n with_block _)
+      (puts-with_blocks next n (v + 1) bs with_block (get-insert_same files n with_block)
       (λ q low high. is_some-insert file.body v b q (held q (omega arith) (omega arith)))),
 )
   where
@@ -112,26 +116,26 @@ PutsEach-with_blocks files n v (b ∷ bs) file stands held = (
     next = insert files n with_block
 
 -- the blocks that are written are those of such a put
-pub PutsBlocks-WritesBlocks : {old new : Files} {name : List ℕ} {n v : ℕ} {blocks : List Block} {file : File} → HasName old name n file → v + length blocks ≤ file.length → WritesBlocks old n v blocks new → PutsBlocks old name v blocks new
-PutsBlocks-WritesBlocks {old} {new} {name} {n} {v} {blocks} {file} named within writes = record {
-  number = n;
-  file = file;
-  named = named;
-  within = within;
-  held = insert old n zeros;
-  holds = record {
-    file = file;
-    stands = named.stands;
-    below = All-range (λ at. not (holds file at)) (λ at. at < file.length) v (length blocks) (λ at low high passes. omega arith);
-    fresh = All-range (λ at. not (holds file at)) (λ at. get file.body at ≡ None) v (length blocks) (λ at low high passes. none_from (get file.body at) passes);
-    apart = IsDistinct-range (λ at. not (holds file at)) v (length blocks);
-    result = refl;
-  };
-  puts = subst (PutsEach (insert old n zeros) n v blocks) same (PutsEach-with_blocks (insert old n zeros) n v blocks zeros (get-insert_same old n zeros) is_held);
+pub FileStep-WritesBlocks : {old new : Files} {n : ℕ} {file : File} (name : List ℕ) (v : ℕ) (blocks : List Block) → HasName old name n file → v + length blocks ≤ file.length → WritesBlocks old n v blocks new → FileStep old (Put name v blocks) Ok new
+FileStep-WritesBlocks {old} {new} {n} {file} name v blocks named within writes = record {
+  changes = holding n (unheld file v (length blocks)) ++ puts_from n v blocks;
+  answers = record { number = n; file = file; named = named; within = within; puts = refl };
+  leads = leads_then old (holding n (unheld file v (length blocks))) (puts_from n v blocks) (insert old n zeros) new (leads_holding old n (unheld file v (length blocks)) (insert old n zeros) holds_zeros)
+      (subst (LeadsTo (insert old n zeros) (puts_from n v blocks)) same (puts-with_blocks (insert old n zeros) n v blocks zeros (get-insert_same old n zeros) is_held));
 }
   where
     zeros : File
     zeros = record file { body = with_zeros file.body (unheld file v (length blocks)) }
+
+    holds_zeros : Holds old n (unheld file v (length blocks)) (insert old n zeros)
+    holds_zeros = record {
+      file = file;
+      stands = named.stands;
+      below = All-range (λ at. not (holds file at)) (λ at. at < file.length) v (length blocks) (λ at low high passes. omega arith);
+      fresh = All-range (λ at. not (holds file at)) (λ at. get file.body at ≡ None) v (length blocks) (λ at low high passes. none_from (get file.body at) passes);
+      apart = IsDistinct-range (λ at. not (holds file at)) v (length blocks);
+      result = refl;
+    }
 
     is_held : (q : ℕ) → v ≤ q → q < v + length blocks → IsSome (get zeros.body q)
     is_held q low high = at (holds file q) refl

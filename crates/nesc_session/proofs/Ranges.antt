@@ -1,5 +1,5 @@
 -- Whether blocks lie below a file's length.
-use Rattle.std.proofs.Common.{◌≡◌, ℕ, ◌+◌, ◌<◌, ◌≤◌, true, false, nat_le, List, length, refl, ap, arith}
+use Rattle.std.proofs.Common.{◌≡◌, ℕ, ◌+◌, ◌<◌, ◌≤◌, true, false, nat_le, List, [], length, refl, ap, arith}
 use Rattle.std.proofs.lemmas.Bool.Decides.{nat_tests}
 use Rattle.nesc_base.specs.Files.{File, Files, file_at}
 use Rattle.file_model.specs.Files.{HasName}
@@ -35,12 +35,12 @@ module _ {files : Files} {name : List ℕ} {number : ℕ} (found : (file : File)
 
 -- a put is refused so
 pub refused_put : (files : Files) (name : List ℕ) (v : ℕ) (blocks : List Block) (answer : HostAnswer) → Refuses files name v (length blocks) answer → FileStep files (Put name v blocks) answer files
-refused_put files name v blocks NoFile refused = (refused, refl)
-refused_put files name v blocks Range refused = (refused, refl)
+refused_put files name v blocks NoFile refused = record { changes = []; answers = (refused, refl); leads = refl }
+refused_put files name v blocks Range refused = record { changes = []; answers = (refused, refl); leads = refl }
 refused_put files name v blocks answer refused = absurd refused
 
 -- and so is a get
 pub refused_get : (files : Files) (name : List ℕ) (v : ℕ) (into : List Block) (answer : HostAnswer) → Refuses files name v (length into) answer → FileStep files (Get name v into) answer files
-refused_get files name v into NoFile refused = (refused, refl)
-refused_get files name v into Range refused = (refused, refl)
+refused_get files name v into NoFile refused = record { changes = []; answers = (refused, refl); leads = refl }
+refused_get files name v into Range refused = record { changes = []; answers = (refused, refl); leads = refl }
 refused_get files name v into answer refused = absurd refused

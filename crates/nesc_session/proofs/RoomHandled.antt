@@ -11,7 +11,8 @@ use Rattle.nesc_requests.specs.declared.request.Request.TheVariants.{Read, Write
 use Rattle.nesc_requests.specs.Requests.{block_count, first_of, is_write}
 use Rattle.nesc_base.specs.Files.{File, Files, file_at}
 use Rattle.file_model.specs.Files.{holds, unheld, with_zeros}
-use Rattle.file_model.specs.Handlings.{HoldsAll, wanted}
+use Rattle.file_model.specs.Handlings.{wanted}
+use Rattle.nesc_session.specs.FilesInMemory.{HoldsAll}
 use Rattle.nesc_session.specs.FunctionInMemory.{WaitsForHead, attached_in}
 use Rattle.nesc_session.specs.Room.{KeepsHeld, room_at, room_attached, room_in}
 use Rattle.nesc_session.proofs.Filters.{All-range, IsApart, filter-filter, length-filter_apart, length-filter_le}

@@ -7,11 +7,11 @@ use Rattle.nesc_requests.specs.declared.request.Request.{Request}
 use Rattle.nesc_requests.specs.declared.request.Request.TheVariants.{Read, Write}
 use Rattle.nesc_base.specs.Files.{File, Files, file_at}
 use Rattle.file_model.specs.Files.{holds, unheld}
-use Rattle.file_model.specs.declared.line.How.{How}
-use Rattle.file_model.specs.declared.line.How.TheVariants.{Hole, Range, Walk}
+use Rattle.file_model.specs.declared.outcome.How.{How}
+use Rattle.file_model.specs.declared.outcome.How.TheVariants.{Hole, Range, Walk}
 use Rattle.nesc_session.specs.FunctionInMemory.{attached_in}
 use Rattle.nesc_session.specs.Room.{KeepsHeld, room_at, room_attached}
-use Rattle.nesc_session.specs.Serving.{ReachesNext}
+use Rattle.file_model.specs.Ticks.{Reaches}
 use Rattle.nesc_session.proofs.RoomKept.{room_at-keeps, room_in-keeps}
 
 one_more : (v : ℕ) (rest : List ℕ) (b : Bool) → length rest ≤ length (cond b (v ∷ rest) rest)
@@ -34,14 +34,14 @@ room_at-next file done (Write v from) =
     omega (arith, same, length-unheld_next file (v + done) (length from - done))
 
 -- what a request needs does not change where one of its blocks is reached
-pub room_at-reached : (files : Files) (file done : ℕ) (request : Request) (how : How) (after : Request) (new : Files) → ReachesNext files file done request (Some how) after new
+pub room_at-reached : (file : File) (v done : ℕ) (request : Request) (how : How) (after : Request) → Reaches file v done request how after
     → (other : File) (k : ℕ) → room_at other k after ≡ room_at other k request
-room_at-reached files file done (Read v into) (Walk fetched) after new reached other k = ap (room_at other k) reached.0.1
-room_at-reached files file done (Read v into) (Hole fetched) after new reached other k = ap (room_at other k) reached.0.1
-room_at-reached files file done (Read v into) Range after new reached other k = absurd reached.0
-room_at-reached files file done (Write v from) (Walk fetched) after new reached other k = ap (room_at other k) reached.0.0
-room_at-reached files file done (Write v from) (Hole fetched) after new reached other k = absurd reached.0
-room_at-reached files file done (Write v from) Range after new reached other k = absurd reached.0
+room_at-reached file v done (Read at into) (Walk fetched) after reached other k = ap (room_at other k) reached.1
+room_at-reached file v done (Read at into) (Hole fetched) after reached other k = ap (room_at other k) reached.1
+room_at-reached file v done (Read at into) Range after reached other k = absurd reached
+room_at-reached file v done (Write at from) (Walk fetched) after reached other k = ap (room_at other k) reached.1
+room_at-reached file v done (Write at from) (Hole fetched) after reached other k = absurd reached
+room_at-reached file v done (Write at from) Range after reached other k = absurd reached
 
 module _ (old new : Files) (keeps : KeepsHeld old new) (no : Option FileNo) (queue rest : List Queued) (head : Queued) (split : queue ≡ head ∷ rest) (done : ℕ) (waiting : Option Miss) where
   ended_in : (no : Option FileNo) → room_attached new (attached_in no rest 0 waiting) ≤ room_attached old (attached_in no (head ∷ rest) done waiting)

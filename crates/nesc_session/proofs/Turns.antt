@@ -1,5 +1,5 @@
 -- Which function is next: the first that is ready behind the last one, or else the first that is ready up to it.
-use Rattle.std.proofs.Common.{◌≡◌, ℕ, suc, ◌+◌, ◌-◌, ◌<◌, ◌≤◌, Bool, true, false, cond, List, [], ◌∷◌, length, take, drop, Option, None, Some, slice_get, refl, sym, ap, ◌∙◌, arith}
+use Rattle.std.proofs.Common.{◌≡◌, ℕ, suc, ◌+◌, ◌-◌, ◌<◌, ◌≤◌, Bool, true, false, cond, List, [], ◌∷◌, length, take, drop, Option, None, Some, slice_get, refl, sym, ap, subst, ◌∙◌, arith}
 use Rattle.std.proofs.lemmas.Bool.Decides.{nat_tests}
 use Rattle.std.proofs.lemmas.Iterator.Adapters.{position_from-zero}
 use Rattle.std.proofs.lemmas.List.{length-drop, length-take}
@@ -9,6 +9,15 @@ use Rattle.std.specs.Option.{option_map, option_or, option_and_then}
 use Rattle.circular_buffer.proofs.Places.{slice_get-drop, slice_get-take}
 use Rattle.nesc_requests.specs.Script.{numbered}
 use Rattle.file_model.specs.Functions.{Function, is_ready, is_runnable, next_runnable}
+
+found_first : (p : ℕ → Bool) (xs : List ℕ) (x y : ℕ) (b : Bool) → p y ≡ b → (find p xs ≡ Some x → p x ≡ true) → cond b (Some y) (find p xs) ≡ Some x → p x ≡ true
+found_first p xs x y true passes later e = let same : y ≡ x = cc in subst (λ (n : ℕ). p n ≡ true) same passes
+found_first p xs x y false fails later e = later e
+
+-- what is found passes the test
+pub found_passes : (p : ℕ → Bool) (xs : List ℕ) (x : ℕ) → find p xs ≡ Some x → p x ≡ true
+found_passes p [] x e = cc
+found_passes p (y ∷ xs) x e = found_first p xs x y (p y) refl (found_passes p xs x) e
 
 abbrev pub ready : Function → Bool
 ready function = is_ready function.attached

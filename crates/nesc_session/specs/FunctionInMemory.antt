@@ -2,7 +2,7 @@
 use Rattle.std.specs.Prelude.{◌≡◌, ℕ, ◌+◌, ◌-◌, ◌≤◌, true, List, [], ◌∷◌, length, Option, Some, None, ⊤}
 use Rattle.std.specs.List.{AllByRecursion}
 use Rattle.circular_buffer.specs.Buffer.{Buffer}
-use Rattle.script_lang.specs.Limits.{most_queued}
+use Rattle.nesc_requests.specs.Machine.{most_queued}
 use Rattle.nesc_requests.specs.Requests.{IsNumbered, block_count, first_of, is_write}
 use Rattle.nesc_base.specs.declared.numbers.FileNo.{FileNo}
 use Rattle.nesc_requests.specs.declared.request.Miss.{Miss}

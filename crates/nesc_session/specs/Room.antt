@@ -1,16 +1,18 @@
 -- How many blocks more may come to be held.
 use Rattle.std.specs.Prelude.{◌≡◌, ℕ, ◌+◌, ◌-◌, true, List, [], ◌∷◌, length, Option, Some, None}
 use Rattle.std.specs.List.{sum_by}
-use Rattle.nesc_requests.specs.Script.{Script}
 use Rattle.nesc_requests.specs.declared.host.HostCommand.{HostCommand}
 use Rattle.nesc_requests.specs.declared.host.HostCommand.TheVariants.{Create, Put, Get, Attach}
+use Rattle.nesc_requests.specs.declared.event.Event.{Event}
+use Rattle.nesc_requests.specs.declared.event.Event.TheVariants.{Submit, Host}
 use Rattle.nesc_requests.specs.declared.request.Queued.{Queued}
 use Rattle.nesc_requests.specs.declared.request.Request.{Request}
 use Rattle.nesc_requests.specs.declared.request.Request.TheVariants.{Read, Write}
 use Rattle.nesc_base.specs.Files.{File, Files, file_at}
 use Rattle.file_model.specs.Files.{holds, unheld}
 use Rattle.file_model.specs.Functions.{Attached, Function}
-use Rattle.file_model.specs.State.{State}
+use Rattle.file_model.specs.declared.outcome.Answer.{Answer}
+use Rattle.file_model.specs.declared.outcome.Answer.TheVariants as answer
 
 -- what the host puts
 abbrev pub room_for : HostCommand → ℕ
@@ -41,12 +43,25 @@ room_attached files (Some attached) = room_in (file_at files attached.file) atta
 abbrev pub room_of : Files → Function → ℕ
 room_of files function = room_attached files function.attached
 
--- what all commands and requests that are left, and all that wait, can bring
-abbrev pub room_for_script : Script → ℕ
-room_for_script script = sum_by room_for script.host + sum_by (sum_by room_to_write) script.guests
+-- all that wait for a function
+abbrev pub room_waited_for : Files → List Function → ℕ
+room_waited_for files = sum_by (room_of files)
 
-abbrev pub room_for_all : State → ℕ
-room_for_all state = room_for_script state.script + sum_by (room_of state.now) state.functions
+-- what an event can bring
+abbrev pub room_for_event : Event → ℕ
+room_for_event (Submit f request) = room_to_write request
+room_for_event (Host command) = room_for command
+room_for_event event = 0
+
+-- what a request has brought: nothing, where it came back
+abbrev pub room_submitted : Request → Answer → ℕ
+room_submitted request (answer.Queued id) = room_to_write request
+room_submitted request other = 0
+
+-- what an event has brought
+abbrev pub room_brought : Event → Answer → ℕ
+room_brought (Submit f request) told = room_submitted request told
+room_brought event told = room_for_event event
 
 -- what was held is held still
 abbrev pub KeepsHeld : Files → Files → Type 0

@@ -1,31 +1,44 @@
 -- The machine while it runs, as the state that it is in.
-use Rattle.std.specs.Prelude.{ℕ, ◌+◌, ◌^◌, ◌<◌, ◌≤◌, length}
-use Rattle.std.specs.FinMap.{empty}
+use Rattle.std.specs.Prelude.{◌≡◌, ℕ, ◌+◌, ◌^◌, ◌<◌, ◌≤◌, List, length}
 use Rattle.nesc_base.specs.Files.{Files}
+use Rattle.nesc_requests.specs.Machine.{most_queued}
+use Rattle.nesc_requests.specs.Requests.{IsNumbered}
+use Rattle.nesc_requests.specs.declared.event.Event.{Event}
+use Rattle.nesc_requests.specs.declared.event.Event.TheVariants.{Submit}
+use Rattle.file_model.specs.Files.{Change, staged}
+use Rattle.file_model.specs.Given.{fetched_in}
+use Rattle.file_model.specs.Machine.{Step}
 use Rattle.file_model.specs.State.{State}
-use Rattle.script_lang.specs.Limits.{most_queued}
-use Rattle.nesc_session.specs.Room.{room_for_all}
+use Rattle.file_model.specs.declared.outcome.Outcome.{Outcome}
+use Rattle.nesc_session.specs.Room.{room_waited_for}
 use Rattle.nesc_session.specs.declared.session.Session.{Session}
 
--- nothing is counted yet, and the session has no part of the files that were kept last
-abbrev pub state_of : Files → Session → State
-state_of kept session = record {
+-- the session has no part of the files that were kept last, nor of how many blocks were staged since
+abbrev pub state_of : Files → ℕ → Session → State
+state_of kept count session = record {
   now = session.files.files;
   kept = kept;
   functions = session.functions.items;
   last = session.last;
-  depth = most_queued;
-  count = 0;
-  script = session.commands;
+  count = count;
 }
 
--- there is room for all blocks that may come to be held and for so many more, and the function that was served last is
--- one of those that there are
+-- whatever those are, the event makes one step of the machine, with these changes of the files
+pub record Steps (old : Session) (event : Event) (outcome : Outcome) (new : Session) : Type 0 where
+  pub changes : List Change
+  pub step : (kept : Files) (count : ℕ) → Step old.setting (state_of kept count old) event changes outcome (state_of kept (count + staged changes) new)
+  pub law : fetched_in outcome.answer ≡ 0
+  pub same_setting : new.setting ≡ old.setting
+
+-- the numbers of the blocks of a request fit their type
+abbrev pub MayStep : Event → Type 0
+MayStep (Submit f request) = IsNumbered request
+MayStep event = Unit {0}
+
+-- there is room for all blocks that may come to be held for the requests that wait, and for so many more; the function that
+-- was served last is one of those that there are; and no more requests wait for one than may
 pub record IsReadyFor (more : ℕ) (session : Session) : Type 0 where
-  pub room : room_for_all (state_of empty session) + more ≤ session.files.room
+  pub room : room_waited_for session.files.files session.functions.items + more ≤ session.files.room
   pub last : session.last ≤ length session.functions.items
   pub few : length session.functions.items < 2 ^ 8
-
--- it can take the next step
-abbrev pub IsReady : Session → Type 0
-IsReady = IsReadyFor 0
+  pub queue : session.setting.machine.queue ≤ most_queued

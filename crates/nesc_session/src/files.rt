@@ -4,12 +4,12 @@ ghost use Rattle.std.specs.Option.{option_copied};
 ghost use Rattle.std.specs.FinMap.{empty, get};
 ghost use Rattle.nesc_base.specs.Files.{File, file_at, most_files};
 ghost use Rattle.file_model.specs.Files.{Changes, HasName, IsUnnamed, holds, put, read_from};
-ghost use Rattle.file_model.specs.Handlings.{HoldsAll, wanted};
+ghost use Rattle.file_model.specs.Handlings.{wanted};
 ghost use Rattle.nesc_requests.specs.declared.request.Kind.TheVariants.{Unmapped};
 ghost use Rattle.nesc_session.specs.Room.{KeepsHeld};
 ghost use Rattle.file_model.specs.HostCommands.{FileStep};
 ghost use Rattle.nesc_base.specs.Block.{zero_block};
-ghost use Rattle.nesc_session.specs.FilesInMemory.{IsInside, Refuses, WritesBlocks, entry_at, files_of, has_name};
+ghost use Rattle.nesc_session.specs.FilesInMemory.{HoldsAll, IsInside, Refuses, WritesBlocks, entry_at, files_of, has_name};
 
 mod held;
 
@@ -114,7 +114,7 @@ impl Files {
         self.held.get(Place { file, block: v })
     }
 
-    /// WritesBlocks a file's block `v` where it is held, and says whether it is.
+    /// Writes a file's block `v` where it is held, and says whether it is.
     pub fn write_held(&mut self, file: FileNo, v: u32, block: &Block) -> bool
         ensures held { result ≡ holds (file_at self.old.files file.0) v }
         ensures written { IsTrue result → Changes self.old.files (put file.0 v block.now) self.new.files }
@@ -176,7 +176,7 @@ impl Files {
         HostAnswer::Ok
     }
 
-    /// WritesBlocks a file's block `v`, whether the file held one there or not.
+    /// Writes a file's block `v`, whether the file held one there or not.
     pub fn write(&mut self, file: FileNo, v: u32, block: &Block)
         requires stands { IsSome (get self.old.files file.0) }
         requires room { 0 < self.old.room }
@@ -186,7 +186,7 @@ impl Files {
         self.held.put(Place { file, block: v }, block);
     }
 
-    // WritesBlocks blocks of a file from `v` on, whether the file held them or not.
+    // Writes blocks of a file from `v` on, whether the file held them or not.
     fn write_all(&mut self, file: FileNo, v: u32, blocks: &Blocks)
         requires stands { IsSome (get self.old.files file.0) }
         requires within { v + length blocks.now < 2 ^ 32 }
@@ -221,7 +221,7 @@ impl Files {
         Ok(file)
     }
 
-    /// WritesBlocks blocks of a file from `v` on, if they lie below its length. There must be room for all of them.
+    /// Writes blocks of a file from `v` on, if they lie below its length. There must be room for all of them.
     pub fn put(&mut self, name: &Name, v: u32, blocks: &Blocks) -> HostAnswer
         requires { length blocks.now ≤ self.old.room }
         ensures step { FileStep self.old.files (HostCommand.Put name.now v blocks.now) result self.new.files }

@@ -1,25 +1,23 @@
 //! One function: what it has, and the requests that wait for it.
-ghost use Rattle.std.specs.Prelude.{◌≡◌, ◌+◌, ◌-◌, ◌<◌, ◌≤◌, true, length, nat_le, is_none, IfOk, IfSome, IsSomeAnd, Some};
+ghost use Rattle.std.specs.Prelude.{◌≡◌, ◌+◌, ◌-◌, ◌<◌, ◌≤◌, true, is_none, IfOk, None};
+ghost use Rattle.nesc_base.specs.declared.numbers.FnNo.{FnNo};
+ghost use Rattle.nesc_requests.specs.Machine.{most_queued};
 ghost use Rattle.nesc_requests.specs.Requests.{IsNumbered, block_count, first_of};
 ghost use Rattle.nesc_requests.specs.declared.request.Kind.TheVariants.{Unmapped};
-ghost use Rattle.file_model.specs.Functions.{fresh, has_file, is_ready, off};
-ghost use Rattle.file_model.specs.Submissions.{queueing};
-ghost use Rattle.script_lang.specs.Limits.{most_queued};
-ghost use Rattle.nesc_session.specs.Outcome.{lines_of};
+ghost use Rattle.file_model.specs.declared.outcome.Answer.TheVariants.{Missed, Served};
+ghost use Rattle.file_model.specs.Functions.{has_file, is_ready, off};
+ghost use Rattle.file_model.specs.HostCommands.{attached_to};
+ghost use Rattle.file_model.specs.Submissions.{Submits};
 ghost use Rattle.nesc_session.specs.Room.{KeepsHeld, room_of};
-ghost use Rattle.nesc_session.specs.Serving.{HandlesFunction, ReachesNext, ServesFunction};
+ghost use Rattle.nesc_session.specs.Serving.{HandlesFunction, ReachesBlock, ServesFunction};
 
-use crate::Outcome;
 use crate::files::Files;
 use circular_buffer::HeapCircularBuffer;
-use file_model::{Handled, How, Line};
+use file_model::{Answer, Handled, How, Outcome};
 use nesc_base::{Block, FileNo, FnNo, NoMemory};
-use nesc_requests::{End, Kind, Miss, Queued, Reply, Request};
+use nesc_requests::{End, Kind, Machine, Miss, Queued, Reply, Request};
 use std::alloc::Global;
 use std::marker::Model;
-
-/// How many requests may wait for a function.
-const MOST_QUEUED: usize = 4;
 
 /// The device of one guest.
 #[derive(Drop)]
@@ -53,7 +51,7 @@ impl Function {
     {
         Ok(Function {
             file: None,
-            queue: HeapCircularBuffer::with_capacity(alloc, MOST_QUEUED)?,
+            queue: HeapCircularBuffer::with_capacity(alloc, usize::from(Machine::MOST_QUEUED))?,
             done: 0,
             waiting: None,
             next: 1,
@@ -81,16 +79,9 @@ impl Function {
         self.file.is_some() && !self.queue.is_empty() && self.waiting.is_none()
     }
 
-    /// Whether no further request may wait for it, where it has a file.
-    pub fn is_full(&self) -> bool
-        ensures { IfSome self.now.attached (λ attached. result ≡ nat_le most_queued (length attached.queue)) }
-    {
-        self.queue.is_full()
-    }
-
     /// Gives it a file. No request waits for it then.
     pub fn attach(&mut self, file: FileNo)
-        ensures { self.new ≡ record self.old { attached = Some (fresh file.0) } }
+        ensures { self.new ≡ attached_to self.old file.0 }
     {
         self.file = Some(file);
         self.queue.clear();
@@ -98,23 +89,29 @@ impl Function {
         self.waiting = None;
     }
 
-    /// Lets a request wait, behind the others, and answers its number.
-    pub fn submit(&mut self, request: Request) -> u64
-        requires room { IsSomeAnd self.old.attached (λ attached. length attached.queue < most_queued) }
+    /// Lets a request wait, behind the others, or hands it back: where the function is off, or where as many wait for
+    /// it as may.
+    pub fn submit(&mut self, most: u8, request: Request) -> Answer
+        requires most { most ≤ most_queued }
         requires fits { IsNumbered request }
-        ensures queued { IfSome self.old.attached (λ attached. self.new ≡ queueing self.old attached request) }
-        ensures number { result ≡ self.old.next }
+        ensures submits { Submits most self.old request result self.new }
     {
+        if self.is_off() {
+            return Answer::Off(request);
+        }
+        if self.queue.len() >= usize::from(most) {
+            return Answer::Full(request);
+        }
         let id = self.next;
         self.next = id.saturating_add(1);
         let _ = self.queue.try_push_back(Queued { id, request });
-        id
+        Answer::Queued(id)
     }
 
     /// Serves one block of its first request, or finds that it has to wait.
     pub fn serve(&mut self, f: FnNo, files: &mut Files) -> Outcome
         requires { is_ready self.old.attached ≡ true }
-        ensures serves { ServesFunction f self.old files.old.files (lines_of result) self.new files.new.files }
+        ensures serves { ServesFunction f self.old files.old.files result self.new files.new.files }
         ensures room { files.new.room ≡ files.old.room }
         ensures needs { room_of files.new.files self.new ≤ room_of files.old.files self.old }
         ensures held { KeepsHeld files.old.files files.new.files }
@@ -125,37 +122,27 @@ impl Function {
         let v = head.request.first() + done;
         if v >= files.length(file) {
             self.done = 0;
-            let line = Line::Served {
-                f,
-                v,
-                how: How::Range,
-            };
-            return Outcome::replied(line, reply(f, head, End::Range, done));
+            return served(f, v, How::Range, Some(reply(f, head, End::Range, done)));
         }
         let Some(how) = reach(files, file, v, &mut head.request, done) else {
             let miss = miss(&head.request, v, done);
             self.waiting = Some(miss);
             let _ = self.queue.try_push_front(head);
-            return Outcome::told(Line::Missed {
-                f,
-                miss,
-                fetched: 0,
-            });
+            return missed(f, miss);
         };
-        let line = Line::Served { f, v, how };
         if head.request.blocks() <= done + 1 {
             self.done = 0;
-            return Outcome::replied(line, reply(f, head, End::Ok, done + 1));
+            return served(f, v, how, Some(reply(f, head, End::Ok, done + 1)));
         }
         self.done = done + 1;
         let _ = self.queue.try_push_front(head);
-        Outcome::told(line)
+        served(f, v, how, None)
     }
 
     /// Holds the blocks that it waits for, with zeros. It is ready then.
     pub fn handle(&mut self, files: &mut Files) -> Handled
         requires { room_of files.old.files self.old ≤ files.old.room }
-        ensures handled { HandlesFunction self.old files.old.files result self.new files.new.files }
+        ensures handled { (f : FnNo) → HandlesFunction f self.old files.old.files result self.new files.new.files }
         ensures room { files.old.room + room_of files.new.files self.new ≤ files.new.room + room_of files.old.files self.old }
         ensures held { KeepsHeld files.old.files files.new.files }
     {
@@ -173,7 +160,7 @@ impl Function {
 fn reach(files: &mut Files, file: FileNo, v: u32, request: &mut Request, done: u32) -> Option<How>
     requires next { done < block_count request.old }
     requires place { v ≡ first_of request.old + done }
-    ensures reaches { ReachesNext files.old.files file.0 done request.old result request.new files.new.files }
+    ensures reaches { ReachesBlock files.old.files file.0 v done request.old result request.new files.new.files }
     ensures room { files.new.room ≡ files.old.room }
     ensures held { KeepsHeld files.old.files files.new.files }
 {
@@ -192,6 +179,29 @@ fn reach(files: &mut Files, file: FileNo, v: u32, request: &mut Request, done: u
             }
             Some(How::Walk(0))
         }
+    }
+}
+
+// The device came to a block so. No node of a tree was fetched for it.
+fn served(f: FnNo, v: u32, how: How, reply: Option<Reply>) -> Outcome
+    ensures { result ≡ record { answer = Served f v how; reply = reply } }
+{
+    let answer = Answer::Served { f, v, how };
+    Outcome { answer, reply }
+}
+
+// A function waits. No node of a tree was fetched before that was found.
+fn missed(f: FnNo, miss: Miss) -> Outcome
+    ensures { result ≡ record { answer = Missed f miss 0; reply = None } }
+{
+    let answer = Answer::Missed {
+        f,
+        miss,
+        fetched: 0,
+    };
+    Outcome {
+        answer,
+        reply: None,
     }
 }
 
@@ -239,9 +249,10 @@ mod tests {
         function.attach(FileNo(1));
         let from = Blocks::zeros(alloc, 1)?;
         let into = Blocks::zeros(alloc, 1)?;
-        function.submit(Request::Write { v: 1, from });
-        assert_eq!(rt; function.submit(Request::Read { v: 0, into }), 2);
-        assert!(rt; !function.is_full());
+        let first = function.submit(2, Request::Write { v: 1, from });
+        assert!(rt; matches!(first, Answer::Queued(1)));
+        let second = function.submit(2, Request::Read { v: 0, into });
+        assert!(rt; matches!(second, Answer::Queued(2)));
 
         assert!(rt; function.is_ready());
         let missed = function.serve(FnNo(7), &mut files);

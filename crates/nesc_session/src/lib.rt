@@ -1,12 +1,11 @@
-//! The machine while it runs: its files, kept in memory, its functions, and one step after another.
+//! The machine while it runs: its files, kept in memory, its functions, and one step for each event.
 #![tactic(auto)]
 
 mod files;
 mod function;
 mod functions;
 mod opening;
-mod outcome;
 mod session;
 
-pub use outcome::Outcome;
+pub use file_model::{Answer, Handled, How, Outcome, Setting};
 pub use session::Session;

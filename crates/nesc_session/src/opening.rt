@@ -9,14 +9,20 @@ ghost use Rattle.image_layout.specs.declared.fault.ImageFault.{ImageFault};
 ghost use Rattle.image_layout.specs.declared.fault.ImageFault.TheVariants.{TwiceOwned};
 ghost use Rattle.image_layout.specs.declared.fault.OpenFault.TheVariants.{Disk, Image};
 ghost use Rattle.image_opening.specs.Parts.{IsTurnedDown, OpensAsItIs};
-ghost use Rattle.script_lang.specs.Limits.{most_blocks};
 ghost use Rattle.nesc_session.specs.Opening.{Loads, held_in};
 
 use crate::files::Files;
 use image_layout::{ImageFault, OpenFault};
 use image_opening::{Parts, read_block, read_parts};
-use nesc_base::{Disk, FileNo};
+use nesc_base::{Disk, FileNo, Geometry};
 use std::alloc::Global;
+
+/// How an image is divided, and its files.
+#[derive(Drop)]
+pub(crate) struct Opened {
+    pub geometry: Geometry,
+    pub files: Files,
+}
 
 /// The files as which the image on the disk opens, with the memory for so many held blocks more. No block of the disk
 /// is read twice, and none is written.
@@ -26,11 +32,11 @@ pub(crate) fn open_files<D: Disk>(
     alloc: Global,
     disk: &mut D,
     more: u32,
-) -> Result<Files, OpenFault>
-    requires { more ≤ most_blocks }
-    ensures opens { (D.known disk.old).tells ≡ true → IfOk result (λ files. OpensAsItIs (D.known disk.old).contents files.files) }
+) -> Result<Opened, OpenFault>
+    requires { more < 2 ^ 31 }
+    ensures opens { (D.known disk.old).tells ≡ true → IfOk result (λ opened. OpensAsItIs (D.known disk.old).contents opened.geometry opened.files.files) }
     ensures refused { (D.known disk.old).tells ≡ true → (fault : ImageFault) → IsErrOf result (Image fault) → IsTurnedDown (D.known disk.old).contents fault }
-    ensures room { IfOk result (λ files. more ≤ files.room) }
+    ensures room { IfOk result (λ opened. more ≤ opened.files.room) }
     ensures cause { HasCause (D.known disk.old).faults (D.known disk.new).faults (IsErrOf result (Disk _)) }
     ensures unchanged { Unchanged (D.known disk.old) (D.known disk.new) }
     ensures goes { Goes (D.known disk.old) (D.known disk.new) }
@@ -48,7 +54,7 @@ pub(crate) fn open_files<D: Disk>(
             load_block(&mut files, disk, area_from + k as u32, *file, *v)?;
         }
     }
-    Ok(files)
+    Ok(Opened { geometry, files })
 }
 
 /// How many data blocks are held.

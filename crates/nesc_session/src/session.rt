@@ -1,152 +1,115 @@
-ghost use Rattle.std.specs.Prelude.{◌≡◌, ◌≤◌, IfOk, IsErrOf, true};
+ghost use Rattle.std.specs.Prelude.{◌≡◌, ◌+◌, ◌<◌, ◌^◌, ℕ, IfOk, IsErrOf, None, true};
 ghost use Rattle.nesc_base.specs.Disk.{Goes, Unchanged};
 ghost use Rattle.nesc_base.specs.Fault.{HasCause};
-ghost use Rattle.nesc_base.specs.Files as plain;
-ghost use Rattle.file_model.specs.Handlings.{Handles};
-ghost use Rattle.file_model.specs.HostCommands.{AttachStep, HostStep};
-ghost use Rattle.file_model.specs.Machine.{HostTurn, Step};
-ghost use Rattle.file_model.specs.Misses.{MissLaw};
+ghost use Rattle.nesc_requests.specs.Machine.{IsMachine};
 ghost use Rattle.file_model.specs.State.{start};
-ghost use Rattle.file_model.specs.Submissions.{Submits};
-ghost use Rattle.file_model.specs.Ticks.{Ticks};
 ghost use Rattle.image_layout.specs.declared.fault.ImageFault.{ImageFault};
 ghost use Rattle.image_layout.specs.declared.fault.OpenFault.TheVariants.{Disk, Image};
 ghost use Rattle.image_opening.specs.Parts.{IsTurnedDown, OpensAsItIs};
-ghost use Rattle.script_lang.specs.CommandsText.{blocks_in_all};
-ghost use Rattle.script_lang.specs.Limits.{most_blocks, most_queued};
-ghost use Rattle.nesc_session.specs.Outcome.{lines_of};
-ghost use Rattle.nesc_session.specs.Room.{room_for};
-ghost use Rattle.nesc_session.specs.Session.{IsReady, IsReadyFor, state_of};
+ghost use Rattle.nesc_session.specs.Room.{room_brought, room_for, room_for_event};
+ghost use Rattle.nesc_session.specs.Session.{IsReadyFor, MayStep, Steps, state_of};
 
-use crate::Outcome;
 use crate::files::Files;
 use crate::function::Function;
 use crate::functions::{index_of_function, is_taken, new_functions, next_index};
-use crate::opening::open_files;
-use file_model::{Handled, Line, Submission};
+use crate::opening::{Opened, open_files};
+use file_model::{Answer, Handled, Outcome, Setting};
 use image_layout::OpenFault;
 use nesc_base::{Disk, FnNo, Name};
-use nesc_requests::{HostAnswer, HostCommand, Word};
-use script_lang::Commands;
+use nesc_requests::{Event, HostAnswer, HostCommand, Machine, Request};
 use std::alloc::Global;
 
-/// The machine while it runs: the files, the functions, and what is left to give.
+/// The machine while it runs: the files and the functions.
 #[derive(Drop)]
 pub struct Session {
+    setting: Setting,
     files: Files,
     functions: Vec<Function>,
     // the number of the function that was served last, or 0
     last: u8,
-    commands: Commands,
 }
 
 impl Session {
-    /// The files as which the image on the disk opens, one function for each guest, all of them off, and all commands
-    /// left. An `Err` says why the image was not opened, by the first cause, or that there is no memory: for its held
-    /// blocks, for those that the commands name, and for the requests that may wait. Of the disk each block is read
-    /// once at most, and none is written.
+    /// The files as which the image on the disk opens, and the functions of the machine, all of them off. There is memory
+    /// for `more` blocks that may come to be held, fewer than 2^31. An `Err` says why the image was not opened, by the first
+    /// cause, or that there is no memory: for the blocks that are held or may come to be, and for the requests that may
+    /// wait. Of the disk each block is read once at most, and none is written.
     pub fn begin<D: Disk>(
         alloc: Global,
+        machine: Machine,
+        more: u32,
         disk: &mut D,
-        commands: Commands,
     ) -> Result<Session, OpenFault>
-        requires { blocks_in_all commands ≤ most_blocks }
-        ensures start { IfOk result (λ session. state_of session.files.files session ≡ start session.files.files most_queued commands) }
-        ensures ready { IfOk result IsReady }
-        ensures opens { (D.known disk.old).tells ≡ true → IfOk result (λ session. OpensAsItIs (D.known disk.old).contents session.files.files) }
+        requires machine { IsMachine machine }
+        requires few { more < 2 ^ 31 }
+        ensures machine { IfOk result (λ session. session.setting.machine ≡ machine) }
+        ensures start { IfOk result (λ session. state_of session.files.files 0 session ≡ start session.setting session.files.files) }
+        ensures ready { IfOk result (IsReadyFor more) }
+        ensures opens { (D.known disk.old).tells ≡ true → IfOk result (λ session. OpensAsItIs (D.known disk.old).contents session.setting.geometry session.files.files) }
         ensures refused { (D.known disk.old).tells ≡ true → (fault : ImageFault) → IsErrOf result (Image fault) → IsTurnedDown (D.known disk.old).contents fault }
         ensures cause { HasCause (D.known disk.old).faults (D.known disk.new).faults (IsErrOf result (Disk _)) }
         ensures unchanged { Unchanged (D.known disk.old) (D.known disk.new) }
         ensures goes { Goes (D.known disk.old) (D.known disk.new) }
         ensures keeps { D.keeps disk.old disk.new }
     {
-        let more = commands.blocks() as u32;
-        let files = open_files(alloc, disk, more)?;
-        let functions = new_functions(alloc, commands.guests())?;
+        let Opened { geometry, files } = open_files(alloc, disk, more)?;
+        let functions = new_functions(alloc, machine.functions)?;
         Ok(Session {
+            setting: Setting { machine, geometry },
             files,
             functions,
             last: 0,
-            commands,
         })
     }
 
-    /// Takes one step, and tells what happened.
-    pub fn step(&mut self, word: Word) -> Outcome
-        requires { IsReady self.old }
-        ensures step { (kept : plain.Files) → Step (state_of kept self.old) word (lines_of result) (state_of kept self.new) }
-        ensures ready { IsReady self.new }
+    /// Takes one step, and tells what happened. There is room for what the event brings.
+    pub fn step(&mut self, event: Event) -> Outcome
+        requires ready { IsReadyFor (room_for_event event) self.old }
+        requires fits { MayStep event }
+        ensures steps { Steps self.old event result self.new }
+        ensures ready { (more : ℕ) → IsReadyFor (room_brought event result.answer + more) self.old → IsReadyFor more self.new }
     {
-        match word {
-            Word::T => self.tick(),
-            Word::G(f) => {
-                let submission = self.submit(f);
-                Outcome::told(Line::Submitted { f, submission })
-            }
-            Word::H => Outcome::told(self.host_turn()),
-            Word::I(f) => {
-                let handled = self.handle(f);
-                Outcome::told(Line::Handled { f, handled })
-            }
+        match event {
+            Event::Tick => self.tick(),
+            Event::Submit(f, request) => told(self.submit(f, request)),
+            Event::Host(command) => told(Answer::Host(self.answer(command))),
+            Event::Handle(f) => told(Answer::Handled(f, self.handle(f))),
         }
     }
 
     // The device serves the next function, if one is runnable.
     fn tick(&mut self) -> Outcome
-        requires { IsReady self.old }
-        ensures step { (kept : plain.Files) → Ticks (state_of kept self.old) (lines_of result) (state_of kept self.new) }
-        ensures law { (kept : plain.Files) → MissLaw (state_of kept self.old) (lines_of result) }
-        ensures ready { IsReady self.new }
+        requires { IsReadyFor 0 self.old }
+        ensures steps { Steps self.old Event.Tick result self.new }
+        ensures ready { (more : ℕ) → IsReadyFor more self.old → IsReadyFor more self.new }
     {
         let Some(index) = next_index(&self.functions, self.last) else {
-            return Outcome::told(Line::Idle);
+            return told(Answer::Idle);
         };
         let f = FnNo(index as u8 + 1);
         self.last = f.0;
         self.functions[index].serve(f, &mut self.files)
     }
 
-    // A guest gives its next request.
-    fn submit(&mut self, f: FnNo) -> Submission
-        requires { IsReady self.old }
-        ensures step { (kept : plain.Files) → Submits (state_of kept self.old) f.0 result (state_of kept self.new) }
-        ensures ready { IsReady self.new }
+    // A guest hands a request to its function.
+    fn submit(&mut self, f: FnNo, request: Request) -> Answer
+        requires ready { IsReadyFor 0 self.old }
+        requires fits { MayStep (Event.Submit f request) }
+        ensures steps { Steps self.old (Event.Submit f request) (record { answer = result; reply = None }) self.new }
+        ensures ready { (more : ℕ) → IsReadyFor (room_brought (Event.Submit f request) result + more) self.old → IsReadyFor more self.new }
     {
-        if !self.commands.has_next(f) {
-            return Submission::End;
-        }
-        let Some(index) = index_of_function(&self.functions, f) else {
-            return Submission::Off;
-        };
-        if self.functions[index].is_off() {
-            return Submission::Off;
-        }
-        if self.functions[index].is_full() {
-            return Submission::Full;
-        }
-        match self.commands.take_guest(f) {
-            None => Submission::End,
-            Some(request) => Submission::Queued(self.functions[index].submit(request)),
-        }
-    }
-
-    // The host gives its next command.
-    fn host_turn(&mut self) -> Line
-        requires { IsReady self.old }
-        ensures step { (kept : plain.Files) → HostTurn (state_of kept self.old).script.host (state_of kept self.old) result (state_of kept self.new) }
-        ensures ready { IsReady self.new }
-    {
-        match self.commands.take_host() {
-            None => Line::HostEnd,
-            Some(command) => Line::Host(self.answer(command)),
+        let most = self.setting.machine.queue;
+        match index_of_function(&self.functions, f) {
+            None => Answer::Off(request),
+            Some(index) => self.functions[index].submit(most, request),
         }
     }
 
     // Does what the host asks for, if it can.
     fn answer(&mut self, command: HostCommand) -> HostAnswer
         requires { IsReadyFor (room_for command) self.old }
-        ensures step { (kept : plain.Files) → HostStep (state_of kept self.old) command result (state_of kept self.new) }
-        ensures ready { IsReady self.new }
+        ensures steps { Steps self.old (Event.Host command) (record { answer = Answer.Host result; reply = None }) self.new }
+        ensures ready { (more : ℕ) → IsReadyFor (room_for command + more) self.old → IsReadyFor more self.new }
     {
         match command {
             HostCommand::Create { name, length } => self.files.create(name, length),
@@ -158,9 +121,9 @@ impl Session {
 
     // Gives a function a file, if it can.
     fn attach(&mut self, f: FnNo, name: &Name) -> HostAnswer
-        requires { IsReady self.old }
-        ensures step { (kept : plain.Files) → AttachStep (state_of kept self.old) f.0 name.now result (state_of kept self.new) }
-        ensures ready { IsReady self.new }
+        requires { IsReadyFor 0 self.old }
+        ensures steps { Steps self.old (Event.Host (HostCommand.Attach f name.now)) (record { answer = Answer.Host result; reply = None }) self.new }
+        ensures ready { (more : ℕ) → IsReadyFor more self.old → IsReadyFor more self.new }
     {
         let Some(file) = self.files.find(name) else {
             return HostAnswer::NoFile;
@@ -180,13 +143,23 @@ impl Session {
 
     // The host holds what a function waits for.
     fn handle(&mut self, f: FnNo) -> Handled
-        requires { IsReady self.old }
-        ensures step { (kept : plain.Files) → Handles (state_of kept self.old) f.0 result (state_of kept self.new) }
-        ensures ready { IsReady self.new }
+        requires { IsReadyFor 0 self.old }
+        ensures steps { Steps self.old (Event.Handle f) (record { answer = Answer.Handled f result; reply = None }) self.new }
+        ensures ready { (more : ℕ) → IsReadyFor more self.old → IsReadyFor more self.new }
     {
         match index_of_function(&self.functions, f) {
             None => Handled::None,
             Some(index) => self.functions[index].handle(&mut self.files),
         }
+    }
+}
+
+// A step in which no request ended.
+fn told(answer: Answer) -> Outcome
+    ensures { result ≡ record { answer = answer; reply = None } }
+{
+    Outcome {
+        answer,
+        reply: None,
     }
 }

@@ -4,9 +4,10 @@ use Rattle.std.proofs.lemmas.List.Sums.{sum_by-append, sum_by-cons}
 use Rattle.std.specs.List.{sum_by}
 use Rattle.toml.specs.Data.{Data, string, integer, float, boolean, datetime, array, table, Items, item}
 use Rattle.nesc_requests.specs.Requests.{block_count}
+use Rattle.nesc_requests.specs.Machine.{default_machine}
 use Rattle.nesc_requests.specs.declared.request.Request.{Request}
 use Rattle.script_lang.specs.CommandsText.{each_of_items, each_at, enough_guests, guests_of_items, request_of}
-use Rattle.script_lang.specs.Limits.{most_blocks, most_functions}
+use Rattle.script_lang.specs.Limits.{most_blocks}
 use Rattle.script_lang.specs.Parts.{TooMany}
 use Rattle.script_lang.specs.Words.{◌>>=◌}
 use Rattle.script_lang.proofs.EachLemmas.{onto}
@@ -31,9 +32,9 @@ if_few-too_many false guests many = tt
 
 named-too_many : (guests : List (List Request)) → most_blocks < blocks_of_guests guests → TooMany blocks_of_guests (enough_guests guests)
 named-too_many guests many =
-    let idle = replicate (most_functions - length guests) [] in
+    let idle = replicate (default_machine.functions - length guests) [] in
     let sum = sum_by-append (sum_by block_count) guests idle in
-    if_few-too_many (nat_le (length guests) most_functions) (guests ++ idle) (omega arith)
+    if_few-too_many (nat_le (length guests) default_machine.functions) (guests ++ idle) (omega arith)
 
 -- one of them has too many
 one-too_many : (done : List (List Request)) (requests : Option (List Request)) (guests : Option (List (List Request))) → TooMany (sum_by block_count) requests

@@ -1,18 +1,18 @@
--- All requests of a text fit, and there are no more guests than functions.
-use Rattle.std.proofs.Common.{◌≡◌, ℕ, ◌-◌, ◌≤◌, nat_le, zero, suc, ◌&&◌, Bool, true, false, if◌then◌else◌, codes, bytes_eq, List, [], ◌∷◌, ◌++◌, length, replicate, Option, Some, None, IfSome, subst, refl, ap, arith}
+-- All requests of a text fit.
+use Rattle.std.proofs.Common.{◌≡◌, ℕ, ◌-◌, ◌≤◌, nat_le, suc, ◌&&◌, Bool, true, false, if◌then◌else◌, codes, bytes_eq, List, [], ◌∷◌, length, Option, Some, None, IfSome, subst, refl, ap, arith}
 use Rattle.std.proofs.lemmas.Bool.Decides.{nat_tests}
-use Rattle.std.proofs.lemmas.List.{length-append, length-replicate}
+use Rattle.std.proofs.lemmas.List.{length-replicate}
 use Rattle.std.specs.List.{AllByRecursion}
 use Rattle.text_kit.specs.Number.{number_of}
-use Rattle.toml.specs.Data.{Data, string, integer, float, boolean, datetime, array, table, Items, no_items, item}
+use Rattle.toml.specs.Data.{Data, string, integer, float, boolean, datetime, array, table, Items}
 use Rattle.nesc_base.specs.Block.{zero_block}
 use Rattle.nesc_base.specs.BlockText.{block_of_text}
+use Rattle.nesc_base.specs.Files.{longest_file}
+use Rattle.nesc_base.specs.declared.blocks.TheConstants.{MOST_IN_REQUEST}
 use Rattle.nesc_requests.specs.Requests.{IsNumbered}
-use Rattle.nesc_requests.specs.declared.host.HostCommand.{HostCommand}
 use Rattle.nesc_requests.specs.declared.request.Request.{Request}
 use Rattle.script_lang.specs.declared.words.Separators.TheVariants.{Spaces}
-use Rattle.script_lang.specs.CommandsText.{up_to, number_to, from_one, count_of, read_blocks, read_of, write_of, request_of_words, request_of, is_trimmed, strings_of, each_of_items, guests_of_items, guests_at, enough_guests, guests_of}
-use Rattle.script_lang.specs.Left.{IsKept}
+use Rattle.script_lang.specs.CommandsText.{up_to, number_to, from_one, first_of, count_of, read_blocks, read_of, write_of, request_of_words, request_of, is_trimmed, strings_of, each_of_items, each_at}
 use Rattle.script_lang.specs.Words.{each, words_of, ◌>>=◌}
 
 -- what holds after the second step, if it holds wherever that begins
@@ -39,9 +39,9 @@ number-within : (most : ℕ) (text : List ℕ) → IfSome (number_to most text) 
 number-within most text =
     if_some-when (λ n. n ≤ most) (nat_le (length text) 10) (number_of text >>= up_to most) (λ is. if_some-any (λ n. n ≤ most) (number_of text) (up_to most) (up_to-within most))
 
-count-within : (text : List ℕ) → IfSome (count_of text) (λ n. n ≤ 64)
+count-within : (text : List ℕ) → IfSome (count_of text) (λ n. n ≤ MOST_IN_REQUEST)
 count-within text =
-    if_some-then (λ n. n ≤ 64) (λ n. n ≤ 64) (number_to 64 text) from_one (number-within 64 text) (λ n within. if_some-when (λ k. k ≤ 64) (nat_le 1 n) (Some n) (λ is. within))
+    if_some-then (λ n. n ≤ MOST_IN_REQUEST) (λ n. n ≤ MOST_IN_REQUEST) (number_to MOST_IN_REQUEST text) from_one (number-within MOST_IN_REQUEST text) (λ n within. if_some-when (λ k. k ≤ MOST_IN_REQUEST) (nat_le 1 n) (Some n) (λ is. within))
 
 -- `each` gives as many as it gets
 one_more : {B : Type 0} (n : ℕ) (y : Option B) (ys : Option (List B)) → IfSome ys (λ zs. length zs ≡ n) → IfSome (y >>= λ z. ys >>= λ zs. Some (z ∷ zs)) (λ zs. length zs ≡ suc n)
@@ -53,30 +53,30 @@ each-length : {A B : Type 0} (f : A → Option B) (xs : List A) → IfSome (each
 each-length f [] = refl
 each-length f (x ∷ xs) = one_more (length xs) (f x) (each f xs) (each-length f xs)
 
-le_from_test : (b : Bool) (n : ℕ) → (b && nat_le n 64) ≡ true → n ≤ 64
+le_from_test : (b : Bool) (n : ℕ) → (b && nat_le n MOST_IN_REQUEST) ≡ true → n ≤ MOST_IN_REQUEST
 le_from_test true n is = grind (arith, nat_tests)
 le_from_test false n is = cc
 
-blocks-within : (texts : List (List ℕ)) → IfSome (read_blocks texts) (λ blocks. length blocks ≤ 64)
+blocks-within : (texts : List (List ℕ)) → IfSome (read_blocks texts) (λ blocks. length blocks ≤ MOST_IN_REQUEST)
 blocks-within texts =
-    if_some-when (λ blocks. length blocks ≤ 64) (nat_le 1 (length texts) && nat_le (length texts) 64) (each block_of_text texts)
+    if_some-when (λ blocks. length blocks ≤ MOST_IN_REQUEST) (nat_le 1 (length texts) && nat_le (length texts) MOST_IN_REQUEST) (each block_of_text texts)
     (λ is.
-    let few : length texts ≤ 64 = le_from_test (nat_le 1 (length texts)) (length texts) is in
-    if_some-weaker (λ blocks. length blocks ≡ length texts) (λ blocks. length blocks ≤ 64) (each block_of_text texts) (each-length block_of_text texts) (λ blocks same. omega arith))
+    let few : length texts ≤ MOST_IN_REQUEST = le_from_test (nat_le 1 (length texts)) (length texts) is in
+    if_some-weaker (λ blocks. length blocks ≡ length texts) (λ blocks. length blocks ≤ MOST_IN_REQUEST) (each block_of_text texts) (each-length block_of_text texts) (λ blocks same. omega arith))
 
 read-fits : (words : List (List ℕ)) → IfSome (read_of words) IsNumbered
 read-fits [] = tt
 read-fits (v ∷ []) = tt
 read-fits (v ∷ n ∷ []) =
-    if_some-then (λ v. v ≤ 1048575) IsNumbered (number_to 1048575 v) _ (number-within 1048575 v)
-    (λ v low. if_some-then (λ n. n ≤ 64) IsNumbered (count_of n) _ (count-within n) (λ n few. let long = length-replicate n zero_block in omega arith))
+    if_some-then (λ v. v ≤ longest_file - 1) IsNumbered (first_of v) _ (number-within (longest_file - 1) v)
+    (λ v low. if_some-then (λ n. n ≤ MOST_IN_REQUEST) IsNumbered (count_of n) _ (count-within n) (λ n few. let long = length-replicate n zero_block in omega arith))
 read-fits (v ∷ n ∷ x ∷ more) = tt
 
 write-fits : (words : List (List ℕ)) → IfSome (write_of words) IsNumbered
 write-fits [] = tt
 write-fits (v ∷ texts) =
-    if_some-then (λ v. v ≤ 1048575) IsNumbered (number_to 1048575 v) _ (number-within 1048575 v)
-    (λ v low. if_some-then (λ blocks. length blocks ≤ 64) IsNumbered (read_blocks texts) _ (blocks-within texts) (λ blocks few. omega arith))
+    if_some-then (λ v. v ≤ longest_file - 1) IsNumbered (first_of v) _ (number-within (longest_file - 1) v)
+    (λ v low. if_some-then (λ blocks. length blocks ≤ MOST_IN_REQUEST) IsNumbered (read_blocks texts) _ (blocks-within texts) (λ blocks few. omega arith))
 
 either-fits : (b : Bool) (x y : Option Request) → IfSome x IsNumbered → IfSome y IsNumbered → IfSome (if b then x else y) IsNumbered
 either-fits true x y p q = p
@@ -105,44 +105,16 @@ each-all P f (x ∷ xs) p = both P (f x) (each f xs) (p x) (each-all P f xs p)
 requests-fit : (items : Items) → IfSome (each_of_items request_of items) (AllByRecursion IsNumbered)
 requests-fit items = if_some-any (AllByRecursion IsNumbered) (strings_of items) (each request_of) (λ texts. each-all IsNumbered request_of texts request-fits)
 
-guests-fit : (items : Items) → IfSome (guests_of_items items) (AllByRecursion (AllByRecursion IsNumbered))
-guests-fit no_items = tt
-guests-fit (item (array items) more) = both (AllByRecursion IsNumbered) (each_of_items request_of items) (guests_of_items more) (requests-fit items) (guests-fit more)
-guests-fit (item (string text) more) = tt
-guests-fit (item (integer z) more) = tt
-guests-fit (item (float y) more) = tt
-guests-fit (item (boolean b) more) = tt
-guests-fit (item (datetime dt) more) = tt
-guests-fit (item (table entries) more) = tt
+each_at-fit : (value : Option Data) → IfSome (each_at request_of value) (AllByRecursion IsNumbered)
+each_at-fit None = tt
+each_at-fit (Some (array items)) = requests-fit items
+each_at-fit (Some (string text)) = tt
+each_at-fit (Some (integer z)) = tt
+each_at-fit (Some (float y)) = tt
+each_at-fit (Some (boolean b)) = tt
+each_at-fit (Some (datetime dt)) = tt
+each_at-fit (Some (table entries)) = tt
 
-guests_at-fit : (value : Option Data) → IfSome (guests_at value) (AllByRecursion (AllByRecursion IsNumbered))
-guests_at-fit None = tt
-guests_at-fit (Some (array items)) = guests-fit items
-guests_at-fit (Some (string text)) = tt
-guests_at-fit (Some (integer z)) = tt
-guests_at-fit (Some (float y)) = tt
-guests_at-fit (Some (boolean b)) = tt
-guests_at-fit (Some (datetime dt)) = tt
-guests_at-fit (Some (table entries)) = tt
-
--- guests with no requests behind them change nothing
-with_idle : (n : ℕ) (guests : List (List Request)) → AllByRecursion (AllByRecursion IsNumbered) guests → AllByRecursion (AllByRecursion IsNumbered) (guests ++ replicate n [])
-with_idle zero [] fit = tt
-with_idle (suc n) [] fit = (tt, with_idle n [] tt)
-with_idle n (guest ∷ guests) fit = (fit.0, with_idle n guests fit.1)
-
-enough-kept : (host : List HostCommand) (guests : List (List Request)) → AllByRecursion (AllByRecursion IsNumbered) guests
-    → IfSome (enough_guests guests) (λ all. IsKept (record { host = host; guests = all }))
-enough-kept host guests fit =
-    if_some-when (λ all. IsKept (record { host = host; guests = all })) (nat_le (length guests) 1) (Some (guests ++ replicate (1 - length guests) []))
-    (λ is.
-    let few : length guests ≤ 1 = grind (arith, nat_tests) in
-    let idle = length-replicate {A = List Request} (1 - length guests) [] in
-    let all = length-append guests (replicate (1 - length guests) []) in
-    record { fit = with_idle (1 - length guests) guests fit; few = omega arith })
-
--- the guests of a text are kept as they are
-pub guests-kept : (value : Option Data) (host : List HostCommand) (guests : List (List Request)) → guests_of value ≡ Some guests → IsKept (record { host = host; guests = guests })
-guests-kept value host guests gives =
-    subst (λ (found : Option (List (List Request))). IfSome found (λ all. IsKept (record { host = host; guests = all }))) gives
-    (if_some-then (AllByRecursion (AllByRecursion IsNumbered)) (λ all. IsKept (record { host = host; guests = all })) (guests_at value) enough_guests (guests_at-fit value) (enough-kept host))
+-- the requests of a guest fit
+pub guest-fits : (value : Option Data) (requests : List Request) → each_at request_of value ≡ Some requests → AllByRecursion IsNumbered requests
+guest-fits value requests gives = subst (λ (found : Option (List Request)). IfSome found (AllByRecursion IsNumbered)) gives (each_at-fit value)

@@ -1,12 +1,12 @@
 -- There are as many guests as there are values.
 use Rattle.std.proofs.Common.{◌≡◌, ℕ, ◌<◌, suc, List, [], ◌∷◌, length, Option, Some, None, IfSome, refl, ap, arith}
 use Rattle.std.proofs.lemmas.Bool.Decides.{nat_tests}
+use Rattle.nesc_requests.specs.Machine.{default_machine}
 use Rattle.nesc_requests.specs.declared.request.Request.{Request}
 use Rattle.toml.specs.Data.{Data, string, integer, float, boolean, datetime, array, table, Items, item}
 use Rattle.toml.specs.View.{items_view, view}
 use Rattle.toml.specs.declared.value.Value.{Value}
 use Rattle.script_lang.specs.CommandsText.{each_of_items, enough_guests, guests_of_items, request_of}
-use Rattle.script_lang.specs.Limits.{most_functions}
 use Rattle.script_lang.specs.Words.{◌>>=◌}
 
 one_more : (n : ℕ) (requests : Option (List Request)) (guests : Option (List (List Request))) → IfSome guests (λ gs. length gs ≡ n) → IfSome (requests >>= λ r. guests >>= λ gs. Some (r ∷ gs)) (λ gs. length gs ≡ suc n)
@@ -27,10 +27,10 @@ pub guests-length : (values : List Value) → IfSome (guests_of_items (items_vie
 guests-length [] = refl
 guests-length (value ∷ values) = item-length (length values) (view value) (items_view values) (guests-length values)
 
-too_long : (n : ℕ) (guests : Option (List (List Request))) → most_functions < n → IfSome guests (λ gs. length gs ≡ n) → (guests >>= enough_guests) ≡ None
+too_long : (n : ℕ) (guests : Option (List (List Request))) → default_machine.functions < n → IfSome guests (λ gs. length gs ≡ n) → (guests >>= enough_guests) ≡ None
 too_long n None many same = refl
-too_long n (Some gs) many same = let long : most_functions < length gs = omega arith in grind (arith, nat_tests)
+too_long n (Some gs) many same = let long : default_machine.functions < length gs = omega arith in grind (arith, nat_tests)
 
 -- with more values than functions no guests are read
-pub guests-refused : (values : List Value) → most_functions < length values → (guests_of_items (items_view values) >>= enough_guests) ≡ None
+pub guests-refused : (values : List Value) → default_machine.functions < length values → (guests_of_items (items_view values) >>= enough_guests) ≡ None
 guests-refused values many = too_long (length values) (guests_of_items (items_view values)) many (guests-length values)

@@ -7,10 +7,13 @@ use Rattle.toml.specs.Data.{Data, string, array, Items, no_items, item, Members,
 use Rattle.toml.specs.Parse.{parse_document}
 use Rattle.nesc_base.specs.Block.{zero_block}
 use Rattle.nesc_base.specs.BlockText.{block_of_text}
+use Rattle.nesc_base.specs.Files.{longest_file}
 use Rattle.nesc_base.specs.Name.{name_of}
+use Rattle.nesc_requests.specs.Machine.{default_machine}
 use Rattle.nesc_requests.specs.Requests as requests
 use Rattle.nesc_requests.specs.Script.{Script}
 use Rattle.nesc_base.specs.declared.block.Block.{Block}
+use Rattle.nesc_base.specs.declared.blocks.TheConstants.{MOST_IN_REQUEST}
 use Rattle.nesc_requests.specs.declared.host.HostCommand.{HostCommand}
 use Rattle.nesc_base.specs.declared.numbers.FnNo.{FnNo}
 use Rattle.nesc_requests.specs.declared.request.Request.{Request}
@@ -18,7 +21,7 @@ use Rattle.nesc_requests.specs.declared.request.Request.TheVariants.{Read, Write
 use Rattle.nesc_requests.specs.declared.host.HostCommand.TheVariants.{Create, Put, Get, Attach}
 use Rattle.script_lang.specs.declared.words.Separators.TheVariants.{Spaces}
 use Rattle.script_lang.specs.Words.{each, words_of, ◌>>=◌}
-use Rattle.script_lang.specs.Limits.{most_bytes, most_blocks, most_functions}
+use Rattle.script_lang.specs.Limits.{most_bytes, most_blocks}
 
 -- a number of 1 to 10 digits, up to a limit
 abbrev pub up_to : ℕ → ℕ → Option ℕ
@@ -34,19 +37,23 @@ from_one n = if nat_le 1 n then Some n else None
 abbrev pub number_from_one : ℕ → List ℕ → Option ℕ
 number_from_one most text = number_to most text >>= from_one
 
+-- the first block that is asked for
+abbrev pub first_of : List ℕ → Option ℕ
+first_of text = number_to (longest_file - 1) text
+
 -- a number of blocks, 1 to 64
 abbrev pub count_of : List ℕ → Option ℕ
-count_of text = number_from_one 64 text
+count_of text = number_from_one MOST_IN_REQUEST text
 
 -- 1 to 64 blocks
 abbrev pub read_blocks : List (List ℕ) → Option (List Block)
-read_blocks texts = if nat_le 1 (length texts) && nat_le (length texts) 64 then each block_of_text texts else None
+read_blocks texts = if nat_le 1 (length texts) && nat_le (length texts) MOST_IN_REQUEST then each block_of_text texts else None
 
 -- NAME LENGTH
 abbrev pub create_of : List (List ℕ) → Option HostCommand
 create_of (name ∷ len ∷ []) = do
   name ← name_of name
-  len ← number_to 1048576 len
+  len ← number_to longest_file len
   Some (Create name len)
 create_of words = None
 
@@ -54,7 +61,7 @@ create_of words = None
 abbrev pub put_of : List (List ℕ) → Option HostCommand
 put_of (name ∷ v ∷ blocks) = do
   name ← name_of name
-  v ← number_to 1048575 v
+  v ← first_of v
   blocks ← read_blocks blocks
   Some (Put name v blocks)
 put_of words = None
@@ -63,14 +70,14 @@ put_of words = None
 abbrev pub get_of : List (List ℕ) → Option HostCommand
 get_of (name ∷ v ∷ n ∷ []) = do
   name ← name_of name
-  v ← number_to 1048575 v
+  v ← first_of v
   n ← count_of n
   Some (Get name v (replicate n zero_block))
 get_of words = None
 
 -- the number of a function
 abbrev pub function_of : List ℕ → Option FnNo
-function_of text = number_from_one most_functions text >>= λ f. Some (record { 0 = f })
+function_of text = number_from_one default_machine.functions text >>= λ f. Some (record { 0 = f })
 
 -- F NAME
 abbrev pub attach_of : List (List ℕ) → Option HostCommand
@@ -93,7 +100,7 @@ command_of_words (first ∷ words) =
 -- V N, with a buffer of N blocks of zeros
 abbrev pub read_of : List (List ℕ) → Option Request
 read_of (v ∷ n ∷ []) = do
-  v ← number_to 1048575 v
+  v ← first_of v
   n ← count_of n
   Some (Read v (replicate n zero_block))
 read_of words = None
@@ -101,7 +108,7 @@ read_of words = None
 -- V BLOCK..
 abbrev pub write_of : List (List ℕ) → Option Request
 write_of (v ∷ blocks) = do
-  v ← number_to 1048575 v
+  v ← first_of v
   blocks ← read_blocks blocks
   Some (Write v blocks)
 write_of words = None
@@ -181,7 +188,7 @@ guests_at (Some value) = None
 -- there is one guest for each function; those that are not named have no requests
 abbrev pub enough_guests : List (List Request) → Option (List (List Request))
 enough_guests guests =
-    if nat_le (length guests) most_functions then Some (guests ++ replicate (most_functions - length guests) [])
+    if nat_le (length guests) default_machine.functions then Some (guests ++ replicate (default_machine.functions - length guests) [])
     else None
 
 abbrev pub guests_of : Option Data → Option (List (List Request))
@@ -192,7 +199,7 @@ abbrev pub script_of_members : Members → Option Script
 script_of_members members = do
   host ← each_at host_command_of (get_member (codes "host") members)
   guests ← guests_of (get_member (codes "guest") members)
-  enough_blocks (record { host = host; guests = guests })
+  enough_blocks (record { machine = default_machine; host = host; guests = guests })
 
 abbrev pub script_of : Members → Option Script
 script_of members = if has_known_keys members then script_of_members members else None

@@ -12,11 +12,3 @@ most_steps = 1048576
 -- how many blocks the commands of a text may have, all together
 abbrev pub most_blocks : ℕ
 most_blocks = 262144
-
--- how many functions there are
-abbrev pub most_functions : ℕ
-most_functions = 1
-
--- how many requests may wait for one function
-abbrev pub most_queued : ℕ
-most_queued = 4

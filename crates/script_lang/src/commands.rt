@@ -1,6 +1,6 @@
 ghost use Rattle.std.specs.Prelude.{◌≡◌, ◌≤◌, ◌∷◌, map, option_map, replicate, IfOk, IfErr, IfSome};
 ghost use Rattle.nesc_base.specs.Block.{zero_block};
-ghost use Rattle.script_lang.specs.CommandsText.{number_to, number_from_one, function_of, read_blocks, count_of, create_of, get_of, put_of, attach_of, read_of, write_of, command_of_words, request_of_words, host_command_of, request_of, is_trimmed};
+ghost use Rattle.script_lang.specs.CommandsText.{number_to, number_from_one, first_of, function_of, read_blocks, count_of, create_of, get_of, put_of, attach_of, read_of, write_of, command_of_words, request_of_words, host_command_of, request_of, is_trimmed};
 ghost use Rattle.script_lang.specs.Reads.{Reads};
 ghost use Rattle.script_lang.specs.Words.{words_of};
 ghost use Rattle.script_lang.specs.declared.words.Separators.TheVariants.{Spaces};
@@ -8,15 +8,12 @@ ghost use Rattle.script_lang.specs.declared.words.Separators.TheVariants.{Spaces
 use crate::fault::InputFault;
 use crate::words::{Separators, next_word};
 use nesc_base::{Blocks, FnNo, LONGEST_FILE, MOST_IN_REQUEST, Name};
-use nesc_requests::{HostCommand, Request};
+use nesc_requests::{HostCommand, Machine, Request};
 use std::alloc::Global;
 use text_kit::{number, read_block};
 
 /// How many digits a number has at most.
 const MOST_DIGITS: usize = 10;
-
-/// How many functions there are.
-pub const MOST_FUNCTIONS: u8 = 1;
 
 /// A number of 1 to 10 digits, up to a limit.
 fn number_to(most: u64, text: &[u8]) -> Option<u64>
@@ -42,9 +39,9 @@ pub fn number_from_one(most: u64, text: &[u8]) -> Option<u64>
 
 /// The first block that is asked for, 0 to 1,048,575.
 fn first_of(text: &[u8]) -> Result<u32, InputFault>
-    ensures { Reads result (number_to 1048575 text.now) }
+    ensures { Reads result (first_of text.now) }
 {
-    let v = number_to(1_048_575, text).ok_or(InputFault::Refused)?;
+    let v = number_to(u64::from(LONGEST_FILE) - 1, text).ok_or(InputFault::Refused)?;
     Ok(v as u32)
 }
 
@@ -52,7 +49,7 @@ fn first_of(text: &[u8]) -> Result<u32, InputFault>
 fn zeros_of(alloc: Global, text: &[u8]) -> Result<Blocks, InputFault>
     ensures { Reads result (option_map (λ n. replicate n zero_block) (count_of text.now)) }
 {
-    let n = number_from_one(64, text).ok_or(InputFault::Refused)?;
+    let n = number_from_one(u64::from(MOST_IN_REQUEST), text).ok_or(InputFault::Refused)?;
     Ok(Blocks::zeros(alloc, n as u32)?)
 }
 
@@ -60,7 +57,7 @@ fn zeros_of(alloc: Global, text: &[u8]) -> Result<Blocks, InputFault>
 pub fn function_of(text: &[u8]) -> Option<FnNo>
     ensures { result ≡ function_of text.now }
 {
-    let f = number_from_one(u64::from(MOST_FUNCTIONS), text)?;
+    let f = number_from_one(u64::from(Machine::DEFAULT.functions), text)?;
     Some(FnNo(f as u8))
 }
 

@@ -3,6 +3,7 @@
 
 mod commands;
 mod fault;
+mod guest;
 mod schedule;
 mod script;
 mod words;

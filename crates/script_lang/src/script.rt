@@ -1,20 +1,22 @@
-ghost use Rattle.std.specs.Prelude.{◌≡◌, ◌≤◌, ◌∷◌, [], ℕ, List, Option, Some, None, codes, length, map, min, nat_lt, suc, option_map, IfOk, IfSome, IfNone, IsErrOf};
-ghost use Rattle.std.specs.List.{sum_by};
+ghost use Rattle.std.specs.Prelude.{◌≡◌, ◌+◌, ◌-◌, ◌≤◌, ◌∷◌, [], ℕ, List, Option, Some, codes, length, map, min, suc, option_map, IfOk, IfSome, IfNone, IsErrOf};
+ghost use Rattle.std.specs.List.{All, sum_by};
 ghost use Rattle.toml.specs.Data.{array, get_member};
 ghost use Rattle.toml.specs.View.{view, items_view, table_view};
+ghost use Rattle.nesc_requests.specs.Machine.{IsMachine, default_machine};
 ghost use Rattle.nesc_requests.specs.Requests.{IsNumbered, block_count};
-ghost use Rattle.nesc_requests.specs.Script.{Script, numbered, requests_of};
+ghost use Rattle.nesc_requests.specs.Script.{Script, requests_of, with_numbered};
 ghost use Rattle.script_lang.specs.CommandsText.{IsCommandsText, blocks_in, blocks_in_all, each_at, each_of_items, enough_blocks, enough_guests, guests_at, guests_of, guests_of_items, has_known_keys, host_command_of, request_of, script_of, script_of_members};
-ghost use Rattle.script_lang.specs.Left.{Takes};
-ghost use Rattle.script_lang.specs.Limits.{most_blocks, most_functions};
+ghost use Rattle.script_lang.specs.Left.{IsFresh, Takes, taken_of};
+ghost use Rattle.script_lang.specs.Limits.{most_blocks};
 ghost use Rattle.script_lang.specs.Parts.{TooMany, said_by};
-ghost use Rattle.script_lang.specs.Reads.{Reads};
+ghost use Rattle.script_lang.specs.Reads.{Reads, ReadsAs};
 
-use crate::commands::{MOST_FUNCTIONS, host_command_of, request_of};
+use crate::commands::{host_command_of, request_of};
 use crate::fault::InputFault;
+use crate::guest::Guest;
 use crate::schedule::MOST_BYTES;
 use nesc_base::{FnNo, NoMemory};
-use nesc_requests::{HostCommand, Request};
+use nesc_requests::{HostCommand, Machine, Request};
 use std::alloc::Global;
 use std::collections::VecDeque;
 use std::marker::Model;
@@ -23,77 +25,72 @@ use toml::{Table, Value};
 /// How many blocks the commands of a text may have, all together.
 const MOST_NAMED_BLOCKS: u64 = 262_144;
 
-/// The commands of the host and the requests of the guests that are left.
+/// The numbers of the machine, and the commands of the host and the requests of the guests that are left.
 #[derive(Drop)]
 pub struct Commands {
+    machine: Machine,
     host: VecDeque<HostCommand>,
-    guests: Vec<VecDeque<Request>>,
+    guests: Vec<Guest>,
 }
 
 impl Model for Commands {
-    ghost use Rattle.std.specs.Prelude.{map};
-    ghost use Rattle.nesc_requests.specs.Script.{Script};
-    ghost use Rattle.script_lang.specs.Left.{IsKept};
+    ghost use Rattle.script_lang.specs.Left.{Left, left_of};
 
-    ghost Value = { Script };
+    ghost Value = { Left };
 
-    ghost view = { λ c. record { host = c.host.items; guests = map (λ queue. queue.items) c.guests.items } };
-
-    ghost invariant = { λ c. IsKept (record { host = c.host.items; guests = map (λ queue. queue.items) c.guests.items }) };
+    ghost view = { λ c. left_of c.machine c.host.items c.guests.items };
 }
 
 impl Commands {
+    /// The numbers of the machine.
+    pub fn machine(&self) -> Machine
+        ensures { result ≡ self.now.script.machine }
+    {
+        self.machine
+    }
+
     /// Takes the host's next command. `None` says that none is left.
     pub fn take_host(&mut self) -> Option<HostCommand>
-        ensures next { IfSome result (λ command. self.old ≡ record self.new { host = command ∷ self.new.host }) }
-        ensures none { IfNone result ((self.old.host ≡ []) × (self.new ≡ self.old)) }
+        ensures next { IfSome result (λ command. self.old.script ≡ record self.new.script { host = command ∷ self.new.script.host }) }
+        ensures taken { self.new.taken ≡ self.old.taken }
+        ensures none { IfNone result ((self.old.script.host ≡ []) × (self.new ≡ self.old)) }
     {
         self.host.pop_front()
     }
 
-    /// Whether a guest has a request left.
-    pub fn has_next(&self, f: FnNo) -> bool
-        ensures { result ≡ nat_lt 0 (length (requests_of self.now f.0)) }
-    {
-        match self.queue(f) {
-            Some(queue) => !queue.is_empty(),
-            None => false,
-        }
-    }
-
-    /// The queue of a guest. `None` says that there is no such guest.
-    fn queue(&self, f: FnNo) -> Option<&VecDeque<Request>>
-        ensures { option_map (λ queue. queue.now.items) result ≡ numbered self.now.guests f.0 }
-    {
-        self.guests.get(place_of(f)?)
-    }
-
     /// Takes a guest's next request. `None` says that none is left.
     pub fn take_guest(&mut self, f: FnNo) -> Option<Request>
-        ensures next { IfSome result (λ request. Takes self.old f.0 request self.new) }
+        ensures next { IfSome result (λ request. Takes self.old.script f.0 request self.new.script) }
         ensures fits { IfSome result IsNumbered }
-        ensures none { IfNone result ((requests_of self.old f.0 ≡ []) × (self.new ≡ self.old)) }
+        ensures taken { IfSome result (λ _. self.new.taken ≡ with_numbered self.old.taken f.0 (taken_of self.old f.0 + 1)) }
+        ensures out { IfSome result (λ _. 1 ≤ taken_of self.new f.0) }
+        ensures none { IfNone result ((requests_of self.old.script f.0 ≡ []) × (self.new ≡ self.old)) }
     {
-        let queue = self.guests.get_mut(place_of(f)?)?;
-        queue.pop_front()
+        let guest = self.guests.get_mut(place_of(f)?)?;
+        guest.take()
     }
 
-    /// How many guests there are.
-    pub fn guests(&self) -> u8
-        ensures { result ≡ length self.now.guests }
+    /// Gives a request back that was taken, which is the guest's next again. More of the guest's requests have to
+    /// have been taken than were given back. It takes no memory.
+    pub fn give_back(&mut self, f: FnNo, request: Request)
+        requires out { 1 ≤ taken_of self.old f.0 }
+        requires fits { IsNumbered request }
+        ensures next { self.new.script ≡ record self.old.script { guests = with_numbered self.old.script.guests f.0 (request ∷ requests_of self.old.script f.0) } }
+        ensures taken { self.new.taken ≡ with_numbered self.old.taken f.0 (taken_of self.old f.0 - 1) }
     {
-        self.guests.len() as u8
+        let place = usize::from(f.0) - 1;
+        self.guests[place].give_back(request);
     }
 
     /// How many blocks the commands and the requests have, up to the greatest number.
     pub fn blocks(&self) -> u64
-        ensures { result ≡ min (blocks_in_all self.now) 18446744073709551615 }
+        ensures { result ≡ min (blocks_in_all self.now.script) 18446744073709551615 }
     {
         blocks_of_host(&self.host).saturating_add(blocks_of_guests(&self.guests))
     }
 }
 
-/// Where a guest's queue stands, counted from 0. `None` says that no guest has this number.
+/// Where a guest stands, counted from 0. `None` says that no guest has this number.
 fn place_of(f: FnNo) -> Option<usize>
     ensures place { IfSome result (λ place. f.0 ≡ suc place) }
     ensures none { IfNone result (f.0 ≡ 0) }
@@ -124,23 +121,12 @@ fn blocks_of_host(commands: &VecDeque<HostCommand>) -> u64
 }
 
 /// How many blocks the guests' requests have, up to the greatest number.
-fn blocks_of_guests(guests: &[VecDeque<Request>]) -> u64
-    ensures { result ≡ min (sum_by (sum_by block_count) (map (λ queue. queue.items) guests.now)) 18446744073709551615 }
+fn blocks_of_guests(guests: &[Guest]) -> u64
+    ensures { result ≡ min (sum_by (sum_by block_count) (map (λ guest. guest.requests) guests.now)) 18446744073709551615 }
 {
     let mut blocks = 0u64;
-    for requests in guests.iter() {
-        blocks = blocks.saturating_add(blocks_of_guest(requests));
-    }
-    blocks
-}
-
-/// How many blocks a guest's requests have, up to the greatest number.
-fn blocks_of_guest(requests: &VecDeque<Request>) -> u64
-    ensures { result ≡ min (sum_by block_count requests.now.items) 18446744073709551615 }
-{
-    let mut blocks = 0u64;
-    for request in requests.iter() {
-        blocks = blocks.saturating_add(u64::from(request.blocks()));
+    for guest in guests.iter() {
+        blocks = blocks.saturating_add(guest.blocks());
     }
     blocks
 }
@@ -227,29 +213,28 @@ fn read_at<C: Spoken>(alloc: Global, value: Option<&Value>) -> Result<VecDeque<C
 }
 
 /// The requests of each guest of an array, if no more are named than there are functions.
-fn read_guests(alloc: Global, values: &[Value]) -> Result<Vec<VecDeque<Request>>, InputFault>
-    ensures read { IfOk result (λ guests. guests_of_items (items_view values.now) ≡ Some (map (λ queue. queue.items) guests.items)) }
-    ensures few { IfOk result (λ guests. length guests.items ≤ most_functions) }
+fn read_guests(alloc: Global, values: &[Value]) -> Result<Vec<Guest>, InputFault>
+    ensures read { IfOk result (λ guests. guests_of_items (items_view values.now) ≡ Some (map (λ guest. guest.requests) guests.items)) }
+    ensures fresh { IfOk result (λ guests. All (λ guest. guest.taken ≡ 0) guests.items) }
+    ensures few { IfOk result (λ guests. length guests.items ≤ default_machine.functions) }
     ensures refused { IsErrOf result InputFault.Refused → TooMany (sum_by (sum_by block_count)) (guests_of (Some (array (items_view values.now)))) }
 {
-    if values.len() > usize::from(MOST_FUNCTIONS) {
+    if values.len() > usize::from(Machine::DEFAULT.functions) {
         return Err(InputFault::Refused);
     }
     let mut guests = Vec::new(alloc);
     for value in values {
         let requests = read_at(alloc, Some(value))?;
-        guests.push(requests)?;
+        guests.push(Guest::new(requests))?;
     }
     Ok(guests)
 }
 
 /// The requests of each guest at a key; there are none where the key is absent.
-fn read_guests_at(
-    alloc: Global,
-    value: Option<&Value>,
-) -> Result<Vec<VecDeque<Request>>, InputFault>
-    ensures read { IfOk result (λ guests. guests_at (option_map (λ value. view value.now) value.entry) ≡ Some (map (λ queue. queue.items) guests.items)) }
-    ensures few { IfOk result (λ guests. length guests.items ≤ most_functions) }
+fn read_guests_at(alloc: Global, value: Option<&Value>) -> Result<Vec<Guest>, InputFault>
+    ensures read { IfOk result (λ guests. guests_at (option_map (λ value. view value.now) value.entry) ≡ Some (map (λ guest. guest.requests) guests.items)) }
+    ensures fresh { IfOk result (λ guests. All (λ guest. guest.taken ≡ 0) guests.items) }
+    ensures few { IfOk result (λ guests. length guests.items ≤ default_machine.functions) }
     ensures refused { IsErrOf result InputFault.Refused → TooMany (sum_by (sum_by block_count)) (guests_of (option_map (λ value. view value.now) value.entry)) }
 {
     let Some(value) = value else {
@@ -260,17 +245,16 @@ fn read_guests_at(
 }
 
 /// A guest for each function, those that are not named with no requests.
-fn with_idle(
-    alloc: Global,
-    guests: Vec<VecDeque<Request>>,
-) -> Result<Vec<VecDeque<Request>>, NoMemory>
-    requires { length guests.items ≤ most_functions }
-    ensures { IfOk result (λ all. enough_guests (map (λ queue. queue.items) guests.items) ≡ Some (map (λ queue. queue.items) all.items)) }
+fn with_idle(alloc: Global, guests: Vec<Guest>) -> Result<Vec<Guest>, NoMemory>
+    requires few { length guests.items ≤ default_machine.functions }
+    requires fresh { All (λ guest. guest.taken ≡ 0) guests.items }
+    ensures enough { IfOk result (λ all. enough_guests (map (λ guest. guest.requests) guests.items) ≡ Some (map (λ guest. guest.requests) all.items)) }
+    ensures fresh { IfOk result (λ all. All (λ guest. guest.taken ≡ 0) all.items) }
 {
     let mut guests = guests;
     let named = guests.len();
-    for _ in named..usize::from(MOST_FUNCTIONS) {
-        guests.push(VecDeque::new(alloc))?;
+    for _ in named..usize::from(Machine::DEFAULT.functions) {
+        guests.push(Guest::new(VecDeque::new(alloc)))?;
     }
     Ok(guests)
 }
@@ -295,8 +279,9 @@ fn read_host(alloc: Global, table: &Table) -> Result<VecDeque<HostCommand>, Inpu
 }
 
 /// The guests' requests of a table.
-fn read_each_guest(alloc: Global, table: &Table) -> Result<Vec<VecDeque<Request>>, InputFault>
-    ensures read { IfOk result (λ guests. guests_of (get_member (codes "guest") (table_view table.now)) ≡ Some (map (λ queue. queue.items) guests.items)) }
+fn read_each_guest(alloc: Global, table: &Table) -> Result<Vec<Guest>, InputFault>
+    ensures read { IfOk result (λ guests. guests_of (get_member (codes "guest") (table_view table.now)) ≡ Some (map (λ guest. guest.requests) guests.items)) }
+    ensures fresh { IfOk result (λ guests. All (λ guest. guest.taken ≡ 0) guests.items) }
     ensures refused { IsErrOf result InputFault.Refused → TooMany (sum_by (sum_by block_count)) (guests_of (get_member (codes "guest") (table_view table.now))) }
 {
     let guests = read_guests_at(alloc, table.get("guest"))?;
@@ -305,8 +290,9 @@ fn read_each_guest(alloc: Global, table: &Table) -> Result<Vec<VecDeque<Request>
 
 /// The commands, if they do not have too many blocks.
 fn enough_blocks(commands: Commands) -> Result<Commands, InputFault>
-    ensures read { Reads result (enough_blocks commands) }
-    ensures few { IfOk result (λ commands. blocks_in_all commands ≤ most_blocks) }
+    ensures read { ReadsAs (λ commands. commands.script) result (enough_blocks commands.script) }
+    ensures same { IfOk result (λ enough. enough ≡ commands) }
+    ensures few { IfOk result (λ enough. blocks_in_all enough.script ≤ most_blocks) }
 {
     if commands.blocks() > MOST_NAMED_BLOCKS {
         return Err(InputFault::Refused);
@@ -316,18 +302,26 @@ fn enough_blocks(commands: Commands) -> Result<Commands, InputFault>
 
 /// The commands of a table.
 fn read_members(alloc: Global, table: &Table) -> Result<Commands, InputFault>
-    ensures read { Reads result (script_of_members (table_view table.now)) }
-    ensures few { IfOk result (λ commands. blocks_in_all commands ≤ most_blocks) }
+    ensures read { ReadsAs (λ commands. commands.script) result (script_of_members (table_view table.now)) }
+    ensures fresh { IfOk result IsFresh }
+    ensures machine { IfOk result (λ commands. IsMachine commands.script.machine) }
+    ensures few { IfOk result (λ commands. blocks_in_all commands.script ≤ most_blocks) }
 {
     let host = read_host(alloc, table)?;
     let guests = read_each_guest(alloc, table)?;
-    enough_blocks(Commands { host, guests })
+    enough_blocks(Commands {
+        machine: Machine::DEFAULT,
+        host,
+        guests,
+    })
 }
 
 /// The commands of a table that has nothing else.
 fn read_table(alloc: Global, table: &Table) -> Result<Commands, InputFault>
-    ensures read { Reads result (script_of (table_view table.now)) }
-    ensures few { IfOk result (λ commands. blocks_in_all commands ≤ most_blocks) }
+    ensures read { ReadsAs (λ commands. commands.script) result (script_of (table_view table.now)) }
+    ensures fresh { IfOk result IsFresh }
+    ensures machine { IfOk result (λ commands. IsMachine commands.script.machine) }
+    ensures few { IfOk result (λ commands. blocks_in_all commands.script ≤ most_blocks) }
 {
     if !has_known_keys(table) {
         return Err(InputFault::Refused);
@@ -337,9 +331,11 @@ fn read_table(alloc: Global, table: &Table) -> Result<Commands, InputFault>
 
 /// The commands of a commands file.
 pub fn read_commands(alloc: Global, text: &[u8]) -> Result<Commands, InputFault>
-    ensures read { IfOk result (λ commands. IsCommandsText text.now commands) }
-    ensures few { IfOk result (λ commands. blocks_in_all commands ≤ most_blocks) }
-    ensures refused { IsErrOf result InputFault.Refused → (commands : Script) → ¬ IsCommandsText text.now commands }
+    ensures read { IfOk result (λ commands. IsCommandsText text.now commands.script) }
+    ensures fresh { IfOk result IsFresh }
+    ensures machine { IfOk result (λ commands. IsMachine commands.script.machine) }
+    ensures few { IfOk result (λ commands. blocks_in_all commands.script ≤ most_blocks) }
+    ensures refused { IsErrOf result InputFault.Refused → (script : Script) → ¬ IsCommandsText text.now script }
 {
     if text.len() > MOST_BYTES {
         return Err(InputFault::Refused);

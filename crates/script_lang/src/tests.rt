@@ -1,6 +1,6 @@
 use crate::{InputFault, read_commands, read_schedule};
 use nesc_base::FnNo;
-use nesc_requests::{HostCommand, Request, Word};
+use nesc_requests::{HostCommand, Machine, Request, Word};
 use std::test::Fail;
 
 #[test]
@@ -8,16 +8,13 @@ fn commands(rt: HostRuntime) -> Result<(), Fail> {
     let text =
         b"host = [\"attach 01  vm\"]\nguest = [[\"r 5 2\", \"w 1048575 z 0123456789abcdef\"]]\n";
     let mut commands = read_commands(rt.alloc(), text).ok().ok_or("memory")?;
-    assert_eq!(rt; (commands.guests(), commands.blocks()), (1, 4));
+    assert_eq!(rt; commands.blocks(), 4);
     let attach = commands.take_host();
     assert!(rt;
         matches!(&attach, Some(HostCommand::Attach { f: FnNo(1), name }) if name.bytes() == b"vm".as_slice())
     );
     let read = commands.take_guest(FnNo(1));
     assert!(rt; matches!(&read, Some(Request::Read { v: 5, into }) if into.len() == 2));
-    assert!(rt;
-        commands.has_next(FnNo(1)) && !commands.has_next(FnNo(0)) && !commands.has_next(FnNo(2))
-    );
     let write = commands.take_guest(FnNo(1));
     assert!(rt;
         matches!(&write, Some(Request::Write { v: 1_048_575, from }) if from.len() == 2 && from.get(1).0[..3] == [0x01, 0x23, 0x45])
@@ -39,6 +36,21 @@ fn commands(rt: HostRuntime) -> Result<(), Fail> {
     ] {
         assert!(rt; matches!(read_commands(rt.alloc(), text), Err(InputFault::Refused)));
     }
+    Ok(())
+}
+
+#[test]
+fn given_back(rt: HostRuntime) -> Result<(), Fail> {
+    let text = b"guest = [[\"r 5 2\", \"r 7 1\"]]";
+    let mut commands = read_commands(rt.alloc(), text).ok().ok_or("memory")?;
+    assert_eq!(rt; commands.machine(), Machine::DEFAULT);
+    let first = commands.take_guest(FnNo(1)).ok_or("no request")?;
+    commands.give_back(FnNo(1), first);
+    for block in [5, 7] {
+        let request = commands.take_guest(FnNo(1));
+        assert!(rt; matches!(&request, Some(Request::Read { v, .. }) if *v == block));
+    }
+    assert!(rt; commands.take_guest(FnNo(1)).is_none());
     Ok(())
 }
 

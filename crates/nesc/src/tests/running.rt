@@ -1,6 +1,6 @@
 use crate::tests::{Told, line_of, new_image, no_disk, source_of, tell_over, tell_with};
 use crate::without_memory;
-use nesc_fakes::{MemSink, SlowSink, SlowSource};
+use nesc_fakes::MemSink;
 use nesc_monitor::{Status, run};
 use std::alloc::{AllocError, Global};
 use std::test::Fail;
@@ -65,32 +65,6 @@ fn want_of_memory_is_told(rt: HostRuntime) {
     let mut err = MemSink::new(alloc, Vec::new(alloc));
     assert_eq!(rt; without_memory(&mut err), Status::Memory);
     assert_eq!(rt; err.bytes(), b"nesc: memory\n".as_slice());
-}
-
-#[test]
-fn pieces_of_one_byte_give_the_same(rt: HostRuntime) -> Result<(), Fail> {
-    let alloc = rt.alloc();
-    let words = line_of(alloc, &["run"])?;
-    let mut image = new_image(alloc)?;
-    let mut spare = no_disk(alloc);
-    let mut commands = SlowSource::new(Vec::from_slice(alloc, GUEST_COMMANDS.as_bytes())?, 1);
-    let mut schedule = SlowSource::new(Vec::from_slice(alloc, GUEST_SCHEDULE.as_bytes())?, 1);
-    let mut out = SlowSink::new(alloc, 1);
-    let mut err = SlowSink::new(alloc, 1);
-    let status = run(
-        alloc,
-        words.as_slice(),
-        &mut commands,
-        &mut schedule,
-        &mut image,
-        &mut spare,
-        &mut out,
-        &mut err,
-    );
-    assert_eq!(rt; status, Status::Done);
-    assert_eq!(rt; out.bytes(), GUEST_TRACE.as_bytes());
-    assert!(rt; err.bytes().is_empty());
-    Ok(())
 }
 
 /// So many times one text, between two others.

@@ -1,4 +1,4 @@
-use Rattle.file_model.proofs.OneStep.{one_step}
+use Rattle.file_model.proofs.Steps.{one_step}
 use Rattle.file_model.proofs.laws.one_step.Goals as goal
 
 pub returns : goal.returns

@@ -10,7 +10,7 @@ pub returns-in-Ok-clause-all : goal.returns-in-Ok-clause-all
 returns-in-Ok-clause-all g c kept =
     let steps = c.in-Ok.ensures kept in
     on_ok_weaker c.flush.result
-    (λ empty. record { groups = steps.groups; end = steps.end; run = steps.run; all = Appends-flushed _ _ _ _ _ _ _ c.requires.empty steps.writes.all c.flush.ensures.keeps empty })
+    (λ empty. record { groups = steps.groups; end = steps.end; rest = steps.rest; trace = steps.trace; told = Appends-flushed _ _ _ _ _ _ _ c.requires.empty steps.writes.all c.flush.ensures.keeps empty })
     c.flush.ensures.empty
 
 pub returns-in-Ok-clause-front : goal.returns-in-Ok-clause-front
@@ -19,8 +19,9 @@ returns-in-Ok-clause-front g c kept =
     record {
       groups = steps.groups;
       end = steps.end;
-      run = steps.run;
-      first = AppendsPrefix-flushed _ _ _ _ _ _ _ c.requires.empty steps.writes.all c.flush.ensures.keeps (Grows-then _ _ _ steps.writes.stays_lent.more c.flush.ensures.more);
+      rest = steps.rest;
+      trace = steps.trace;
+      told = AppendsPrefix-flushed _ _ _ _ _ _ _ c.requires.empty steps.writes.all c.flush.ensures.keeps (Grows-then _ _ _ steps.writes.stays_lent.more c.flush.ensures.more);
     }
 
 pub returns-in-Err-clause-front : goal.returns-in-Err-clause-front
@@ -29,8 +30,9 @@ returns-in-Err-clause-front g c kept =
     record {
       groups = steps.groups;
       end = steps.end;
-      run = steps.run;
-      first = AppendsPrefix-cut _ _ _ _ _ c.requires.empty steps.writes.first steps.writes.stays_lent.more;
+      rest = steps.rest;
+      trace = steps.trace;
+      told = AppendsPrefix-cut _ _ _ _ _ c.requires.empty steps.writes.first steps.writes.stays_lent.more;
     }
 
 pub returns-in-Ok-clause-lent : goal.returns-in-Ok-clause-lent

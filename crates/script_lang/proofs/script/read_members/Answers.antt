@@ -1,8 +1,7 @@
-use Rattle.std.proofs.Common.{codes}
-use Rattle.toml.specs.Data.{get_member}
-use Rattle.toml.specs.View.{table_view}
-use Rattle.script_lang.proofs.FitLemmas.{guests-kept}
+use Rattle.std.proofs.lemmas.Result.{IfOk-weaker}
+use Rattle.script_lang.specs.Left.{IsFresh}
+use Rattle.script_lang.proofs.LeftLemmas.{fresh-all}
 use Rattle.script_lang.proofs.script.read_members.Goals as goal
 
-pub invariant_of-enough_blocks : goal.invariant_of-enough_blocks
-invariant_of-enough_blocks c = guests-kept (get_member (codes "guest") (table_view c.args.table.now)) _ _ c.in_ok-guests.ensures.read
+pub returns-clause-fresh : goal.returns-clause-fresh
+returns-clause-fresh c = IfOk-weaker c.enough_blocks.result _ IsFresh (λ enough same. rw same (fresh-all c.in_ok-guests.guests.items c.in_ok-guests.ensures.fresh)) c.enough_blocks.ensures.same

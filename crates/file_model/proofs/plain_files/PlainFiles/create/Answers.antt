@@ -6,12 +6,11 @@ use Rattle.file_model.proofs.Entries.{one_inserted}
 use Rattle.file_model.proofs.FileSets.{IsFileSet-Creates}
 use Rattle.file_model.proofs.plain_files.PlainFiles.create.Goals as goal
 
-made : (c : goal.Joined-branch-2) → Creates c.args.self.now c.args.name c.args.len (from_entries c.insert.new.self.entries)
+made : (c : goal.Joined-branch-2) → Creates c.args.self.now c.args.number.0 c.args.name c.args.len (from_entries c.insert.new.self.entries)
 made c =
     let files = c.self.inside.files.entries in
     let n = c.args.number.0 in
     record {
-      number = n;
       unnamed = c.requires.unnamed;
       lowest = c.requires.lowest;
       result = one_inserted files c.insert.new.self.entries n c.new.result c.in_ok-insert.ensures.updates.0
@@ -20,7 +19,7 @@ made c =
     }
 
 pub invariant_of-self-2 : goal.invariant_of-self-2
-invariant_of-self-2 c = IsFileSet-Creates _ _ _ _ c.new.ensures.named c.requires.short (subst IsFileSet c.self.view_is c.self.invariant) (made c)
+invariant_of-self-2 c = IsFileSet-Creates _ _ _ _ _ c.new.ensures.named c.requires.short (subst IsFileSet c.self.view_is c.self.invariant) (made c)
 
 pub returns-clause-ok : goal.returns-clause-ok
 returns-clause-ok c = made c

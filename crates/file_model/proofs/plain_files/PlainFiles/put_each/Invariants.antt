@@ -1,11 +1,11 @@
 use Rattle.std.proofs.Common.{take, length}
-use Rattle.file_model.specs.Files.{PutsEach}
+use Rattle.file_model.specs.Files.{LeadsTo, puts_from}
 use Rattle.file_model.specs.PlainFiles.{AreHeld}
 use Rattle.file_model.proofs.plain_files.PlainFiles.put_each.Given as goal
 
 -- the first blocks are put, and all of them are still held
 abbrev pub invariant-loop-k : goal.invariant-loop-k
 invariant-loop-k l = record {
-  so_far : PutsEach l.fn.self l.number.0 l.v (take l.k l.blocks) l.self;
+  so_far : LeadsTo l.fn.self (puts_from l.number.0 l.v (take l.k l.blocks)) l.self;
   held : AreHeld l.self l.number.0 l.v (length l.blocks);
 }

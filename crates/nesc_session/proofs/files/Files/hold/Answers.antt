@@ -2,10 +2,10 @@ use Rattle.std.proofs.Common.{◌≡◌, ◌+◌, ◌-◌, ◌<◌, ◌≤◌, B
 use Rattle.std.specs.Int.{from_bool}
 use Rattle.nesc_requests.specs.declared.request.Kind.TheVariants.{Unmapped}
 use Rattle.nesc_base.specs.Files.{file_at}
-use Rattle.file_model.specs.Handlings.{HoldsAll}
 use Rattle.nesc_session.proofs.Holding.{length_then, holds_then, HoldsAll-more}
 use Rattle.nesc_session.proofs.KeepsHeld.{KeepsHeld-HoldsAll}
 use Rattle.nesc_session.proofs.Standing.{stands-length}
+use Rattle.nesc_session.specs.FilesInMemory.{HoldsAll}
 use Rattle.nesc_session.proofs.Wanted.{wanted_from, wanted-range, wanted-end, length-wanted_fresh, length-wanted_le}
 use Rattle.nesc_session.proofs.files.Files.hold.Goals as goal
 

@@ -1,6 +1,6 @@
 use Rattle.std.proofs.Common.{◌≡◌, ◌+◌, ◌-◌, length}
 use Rattle.nesc_base.specs.Files.{file_at}
-use Rattle.file_model.specs.Handlings.{HoldsAll}
+use Rattle.nesc_session.specs.FilesInMemory.{HoldsAll}
 use Rattle.nesc_session.proofs.Wanted.{wanted_from}
 use Rattle.nesc_session.proofs.files.Files.hold.Given as goal
 

@@ -2,13 +2,13 @@ use Rattle.nesc_requests.specs.declared.host.HostCommand.TheVariants.{Put}
 use Rattle.nesc_requests.specs.declared.host.HostAnswer.TheVariants.{Ok}
 use Rattle.nesc_session.proofs.KeepsHeld.{KeepsHeld-FileStep}
 use Rattle.nesc_session.proofs.Ranges.{refused_put}
-use Rattle.nesc_session.proofs.Puts.{PutsBlocks-WritesBlocks}
+use Rattle.nesc_session.proofs.Puts.{FileStep-WritesBlocks}
 use Rattle.nesc_session.proofs.files.Files.put.Goals as goal
 
 pub returns-in-Ok-clause-step : goal.returns-in-Ok-clause-step
 returns-in-Ok-clause-step c =
     let inside = rw c.len.ensures.count at c.in-Ok.ensures.found in
-    PutsBlocks-WritesBlocks inside.named inside.within c.write_all.ensures.blocks
+    FileStep-WritesBlocks c.args.name.now c.args.v c.args.blocks.now inside.named inside.within c.write_all.ensures.blocks
 
 pub returns-in-Ok-clause-keeps : goal.returns-in-Ok-clause-keeps
 returns-in-Ok-clause-keeps c = KeepsHeld-FileStep _ _ (Put c.args.name.now c.args.v c.args.blocks.now) Ok (returns-in-Ok-clause-step c)

@@ -1,46 +1,88 @@
-use Rattle.std.proofs.Common.{◌<◌, Some, length, slice_set, refl, sym, ap, subst, ◌∙◌}
+use Rattle.std.proofs.Common.{◌≡◌, ◌<◌, [], length, slice_set, refl, sym, ap, subst, ◌∙◌, rules}
 use Rattle.nesc_requests.specs.Script.{numbered}
-use Rattle.file_model.specs.Functions.{Function, fresh, is_taken}
+use Rattle.nesc_requests.specs.declared.host.HostAnswer.TheVariants.{NoFile, FunctionTaken, FileTaken, Ok}
+use Rattle.nesc_requests.specs.declared.host.HostCommand.TheVariants.{Attach}
+use Rattle.file_model.specs.Functions.{is_taken}
+use Rattle.file_model.specs.HostCommands.{AttachStep, attached_to}
 use Rattle.nesc_session.specs.Session.{state_of}
-use Rattle.nesc_session.proofs.Items.{is_off-item, is_off-none, numbered-item, with_numbered-at}
+use Rattle.nesc_session.proofs.Items.{Becomes-item, is_off-item, is_off-none}
+use Rattle.nesc_session.proofs.SessionLemmas.{Step-answered}
 use Rattle.nesc_session.proofs.session.Session.attach.Goals as goal
 
-pub returns-in_default-index_of_function-clause-step : goal.returns-in_default-index_of_function-clause-step
-returns-in_default-index_of_function-clause-step c kept =
+pub returns-in_default-clause-steps : goal.returns-in_default-clause-steps
+returns-in_default-clause-steps c =
+    let session = c.args.self.now in
+    let attach : AttachStep session.files.files session.functions.items c.args.f.0 c.args.name.now NoFile session.functions.items = (search rules, refl) in
+    record {
+      changes = [];
+      step = λ kept count. Step-answered session.setting (state_of kept count session) (Attach c.args.f c.args.name.now) NoFile [] session.files.files session.functions.items (attach, refl) refl;
+      law = refl;
+      same_setting = refl;
+    }
+
+pub returns-in_default-index_of_function-clause-steps : goal.returns-in_default-index_of_function-clause-steps
+returns-in_default-index_of_function-clause-steps c =
+    let session = c.args.self.now in
     let found = c.in-Some.ensures in
     let none = ap (λ functions. numbered functions c.args.f.0) (sym c.deref.ensures.value) ∙ c.in_default-index_of_function.ensures in
-    ((c.in-Some.file.0, found.0, found.1, is_off-none c.args.self.now.functions.items c.args.f.0 none), refl)
-
-pub returns-then-not-is_off-clause-step : goal.returns-then-not-is_off-clause-step
-returns-then-not-is_off-clause-step c kept =
-    let found = c.in-Some.ensures in
-    let functions = c.args.self.now.functions.items in
-    let within = subst (λ all. c.in-Some-index_of_function.index < length all) c.deref.ensures.value c.in-Some-index_of_function.ensures.0 in
-    ((c.in-Some.file.0, found.0, found.1, is_off-item functions c.args.f.0 c.in-Some-index_of_function.index c.in-Some-index_of_function.ensures.1 c.index.result.now within c.index.ensures ∙ sym c.if-not-is_off.ensures), refl)
-
-pub returns-then-is_taken-clause-step : goal.returns-then-is_taken-clause-step
-returns-then-is_taken-clause-step c kept =
-    let found = c.in-Some.ensures in
-    let functions = c.args.self.now.functions.items in
-    let within = subst (λ all. c.in-Some-index_of_function.index < length all) c.deref.ensures.value c.in-Some-index_of_function.ensures.0 in
-    let off = is_off-item functions c.args.f.0 c.in-Some-index_of_function.index c.in-Some-index_of_function.ensures.1 c.index.result.now within c.index.ensures ∙ sym c.if-not-is_off.ensures in
-    let taken = ap (λ all. is_taken all c.in-Some.file.0) (sym c.deref-2.ensures.value) ∙ sym c.if-is_taken.ensures in
-    ((c.in-Some.file.0, found.0, found.1, off, taken), refl)
-
-pub returns-clause-step : goal.returns-clause-step
-returns-clause-step c kept =
-    let found = c.in-Some.ensures in
-    let functions = c.args.self.now.functions.items in
-    let number = c.in-Some-index_of_function.ensures.1 in
-    let within = subst (λ all. c.in-Some-index_of_function.index < length all) c.deref.ensures.value c.in-Some-index_of_function.ensures.0 in
-    let given : Function = record c.index_mut.result.now { attached = Some (fresh c.in-Some.file.0) } in
+    let attach : AttachStep session.files.files session.functions.items c.args.f.0 c.args.name.now FunctionTaken session.functions.items =
+    ((c.in-Some.file.0, found.0, found.1), is_off-none session.functions.items c.args.f.0 none, refl) in
     record {
+      changes = [];
+      step = λ kept count. Step-answered session.setting (state_of kept count session) (Attach c.args.f c.args.name.now) FunctionTaken [] session.files.files session.functions.items (attach, refl) refl;
+      law = refl;
+      same_setting = refl;
+    }
+
+pub returns-then-not-is_off-clause-steps : goal.returns-then-not-is_off-clause-steps
+returns-then-not-is_off-clause-steps c =
+    let session = c.args.self.now in
+    let found = c.in-Some.ensures in
+    let within = subst (λ all. c.in-Some-index_of_function.index < length all) c.deref.ensures.value c.in-Some-index_of_function.ensures.0 in
+    let on = is_off-item session.functions.items c.args.f.0 c.in-Some-index_of_function.index c.in-Some-index_of_function.ensures.1 c.index.result.now within c.index.ensures ∙ sym c.if-not-is_off.ensures in
+    let attach : AttachStep session.files.files session.functions.items c.args.f.0 c.args.name.now FunctionTaken session.functions.items = ((c.in-Some.file.0, found.0, found.1), on, refl) in
+    record {
+      changes = [];
+      step = λ kept count. Step-answered session.setting (state_of kept count session) (Attach c.args.f c.args.name.now) FunctionTaken [] session.files.files session.functions.items (attach, refl) refl;
+      law = refl;
+      same_setting = refl;
+    }
+
+pub returns-then-is_taken-clause-steps : goal.returns-then-is_taken-clause-steps
+returns-then-is_taken-clause-steps c =
+    let session = c.args.self.now in
+    let found = c.in-Some.ensures in
+    let within = subst (λ all. c.in-Some-index_of_function.index < length all) c.deref.ensures.value c.in-Some-index_of_function.ensures.0 in
+    let off = is_off-item session.functions.items c.args.f.0 c.in-Some-index_of_function.index c.in-Some-index_of_function.ensures.1 c.index.result.now within c.index.ensures ∙ sym c.if-not-is_off.ensures in
+    let taken = ap (λ all. is_taken all c.in-Some.file.0) (sym c.deref-2.ensures.value) ∙ sym c.if-is_taken.ensures in
+    let attach : AttachStep session.files.files session.functions.items c.args.f.0 c.args.name.now FileTaken session.functions.items = ((c.in-Some.file.0, found.0, found.1, off, taken), refl) in
+    record {
+      changes = [];
+      step = λ kept count. Step-answered session.setting (state_of kept count session) (Attach c.args.f c.args.name.now) FileTaken [] session.files.files session.functions.items (attach, refl) refl;
+      law = refl;
+      same_setting = refl;
+    }
+
+pub returns-clause-steps : goal.returns-clause-steps
+returns-clause-steps c =
+    let session = c.args.self.now in
+    let functions = session.functions.items in
+    let found = c.in-Some.ensures in
+    let index = c.in-Some-index_of_function.index in
+    let number = c.in-Some-index_of_function.ensures.1 in
+    let within = subst (λ all. index < length all) c.deref.ensures.value c.in-Some-index_of_function.ensures.0 in
+    let after = slice_set functions index c.attach.new.self in
+    let attach : AttachStep session.files.files functions c.args.f.0 c.args.name.now Ok after = record {
       number = c.in-Some.file.0;
       file = found.0;
       named = found.1;
-      function = c.index_mut.result.now;
-      stands = numbered-item functions c.args.f.0 c.in-Some-index_of_function.index number c.index_mut.result.now within c.index_mut.ensures.value;
-      off = is_off-item functions c.args.f.0 c.in-Some-index_of_function.index number c.index.result.now within c.index.ensures ∙ sym c.if-not-is_off.ensures;
+      off = is_off-item functions c.args.f.0 index number c.index.result.now within c.index.ensures ∙ sym c.if-not-is_off.ensures;
       free = ap (λ all. is_taken all c.in-Some.file.0) (sym c.deref-2.ensures.value) ∙ sym c.if-is_taken.ensures;
-      result = λ i. record (state_of kept c.args.self.now) { functions = (ap (slice_set functions c.in-Some-index_of_function.index) c.attach.ensures ∙ sym (with_numbered-at functions c.args.f.0 c.in-Some-index_of_function.index number given)) i };
+      given = Becomes-item functions c.args.f.0 index number c.index_mut.result.now c.attach.new.self within c.index_mut.ensures.value (λ one other. other ≡ attached_to one c.in-Some.file.0) c.attach.ensures;
+    } in
+    record {
+      changes = [];
+      step = λ kept count. Step-answered session.setting (state_of kept count session) (Attach c.args.f c.args.name.now) Ok [] session.files.files after (attach, refl) refl;
+      law = refl;
+      same_setting = refl;
     }

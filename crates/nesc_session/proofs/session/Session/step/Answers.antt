@@ -1,11 +1,25 @@
-use Rattle.std.proofs.Common.{sym, subst}
-use Rattle.nesc_requests.specs.declared.word.Word.{Word}
-use Rattle.file_model.specs.Machine.{Step}
-use Rattle.nesc_session.specs.Outcome.{lines_of}
-use Rattle.nesc_session.specs.Session.{state_of}
+use Rattle.std.proofs.Common.{◌≡◌, ℕ, ◌+◌, ap, subst, ◌∙◌, arith}
+use Rattle.nesc_session.specs.Room.{room_brought}
+use Rattle.nesc_session.specs.Session.{IsReadyFor}
+use Rattle.nesc_session.specs.declared.session.Session.{Session}
 use Rattle.nesc_session.proofs.session.Session.step.Goals as goal
 
-pub returns-in-T-clause-step : goal.returns-in-T-clause-step
-returns-in-T-clause-step c kept =
-    let Steps : Word → Type 0 = λ word. Step (state_of kept c.args.self.now) word (lines_of c.tick.result) (state_of kept c.tick.new.self) in
-    subst Steps (sym c.in-T.is) (c.tick.ensures.step kept, c.tick.ensures.law kept)
+-- the same room
+ready_for : (session : Session) (one other : ℕ) → one ≡ other → IsReadyFor one session → IsReadyFor other session
+ready_for session one other same = subst (λ n. IsReadyFor n session) same
+
+pub returns-in-Tick-clause-ready : goal.returns-in-Tick-clause-ready
+returns-in-Tick-clause-ready c more before =
+    c.tick.ensures.ready more (ready_for c.args.self.now _ _ (ap (λ e. room_brought e c.tick.result.answer + more) c.in-Tick.is ∙ omega arith) before)
+
+pub returns-in-Submit-clause-ready : goal.returns-in-Submit-clause-ready
+returns-in-Submit-clause-ready c more before =
+    c.submit.ensures.ready more (ready_for c.args.self.now _ _ (λ i. room_brought (c.in-Submit.is i) (c.told.ensures i).answer + more) before)
+
+pub returns-in-Host-clause-ready : goal.returns-in-Host-clause-ready
+returns-in-Host-clause-ready c more before =
+    c.answer.ensures.ready more (ready_for c.args.self.now _ _ (ap (λ e. room_brought e c.told-in-Host.result.answer + more) c.in-Host.is) before)
+
+pub returns-in-Handle-clause-ready : goal.returns-in-Handle-clause-ready
+returns-in-Handle-clause-ready c more before =
+    c.handle.ensures.ready more (ready_for c.args.self.now _ _ (ap (λ e. room_brought e c.told-in-Handle.result.answer + more) c.in-Handle.is ∙ omega arith) before)

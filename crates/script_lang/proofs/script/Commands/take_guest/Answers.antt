@@ -1,25 +1,23 @@
-use Rattle.std.proofs.Common.{◌≡◌, [], length, IfNone, refl, rules}
+use Rattle.std.proofs.Common.{length, refl}
 use Rattle.std.proofs.lemmas.Option.{slice_get_read}
-use Rattle.script_lang.proofs.LeftLemmas.{IsTaken, kept-after, fits-next, takes-next, takes-none}
+use Rattle.script_lang.proofs.LeftLemmas.{IsGuestAt, takes-next, takes-none, takes-out, takes-taken}
 use Rattle.script_lang.proofs.script.Commands.take_guest.Goals as goal
+use Rattle.script_lang.proofs.script.Commands.take_guest.Goals.{After-take}
 
-taken : (c : goal.After-self-2-1) → IsTaken (λ queue. queue.items) c.self.inside.guests.items c.in_ok-place_of.field-0 c.pop_front.new.self c.pop_front.result
-taken c = record {
-  old = c.in_ok-queue.queue.now;
-  at = slice_get_read c.self.inside.guests.items (length c.self.inside.guests.items) c.in_ok-place_of.field-0 c.in_ok-queue.queue.now refl c.in_ok-queue.ensures.item.3.0 c.in_ok-queue.ensures.value;
-  next = c.pop_front.ensures.items;
+found : (c : After-take) → IsGuestAt c.self.inside.guests.items c.args.f.0 c.in_ok-place_of.field-0 c.in_ok-guest.guest.now
+found c = record {
+  number = c.in_ok-place_of.ensures.place;
+  at = slice_get_read c.self.inside.guests.items (length c.self.inside.guests.items) c.in_ok-place_of.field-0 c.in_ok-guest.guest.now refl c.in_ok-guest.ensures.item.3.0 c.in_ok-guest.ensures.value;
 }
 
-pub invariant_of-self-2 : goal.invariant_of-self-2
-invariant_of-self-2 c = kept-after _ c.self.inside.host.items _ _ _ _ (taken c) c.self.invariant
-
 pub returns-clause-next : goal.returns-clause-next
-returns-clause-next c = rw (← c.self.view_is) (takes-next _ c.self.inside.host.items _ _ _ _ (taken c) c.args.f.0 c.in_ok-place_of.ensures.place)
+returns-clause-next c = rw (← c.self.view_is) (takes-next c.self.inside.machine c.self.inside.host.items _ _ _ _ (found (goal.at.returns-clause-next c).After-take) _ _ c.take.ensures.next)
 
-pub returns-clause-fits : goal.returns-clause-fits
-returns-clause-fits c = fits-next _ c.self.inside.host.items _ _ _ _ (taken c) c.self.invariant
+pub returns-clause-taken : goal.returns-clause-taken
+returns-clause-taken c = rw (← c.self.view_is) (takes-taken c.self.inside.machine c.self.inside.host.items _ _ _ _ (found (goal.at.returns-clause-taken c).After-take) _ _ c.take.ensures.taken)
+
+pub returns-clause-out : goal.returns-clause-out
+returns-clause-out c = takes-out c.self.inside.machine c.self.inside.host.items _ _ _ _ (found (goal.at.returns-clause-out c).After-take) _ _ c.take.ensures.taken
 
 pub returns-clause-none : goal.returns-clause-none
-returns-clause-none c =
-    let empty : IfNone c.pop_front.result (c.pop_front.new.self.items ≡ []) = search rules in
-    rw (← c.self.view_is) (takes-none _ c.self.inside.host.items _ _ _ _ (taken c) c.args.f.0 c.in_ok-place_of.ensures.place empty)
+returns-clause-none c = rw (← c.self.view_is) (takes-none c.self.inside.machine c.self.inside.host.items _ _ _ _ (found (goal.at.returns-clause-none c).After-take) _ _ c.take.ensures.none)

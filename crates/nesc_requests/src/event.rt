@@ -1,0 +1,15 @@
+use crate::{HostCommand, Request};
+use nesc_base::FnNo;
+
+/// What comes to the machine, and makes it take one step.
+#[derive(Debug, Drop)]
+pub enum Event {
+    /// A guest hands a request to its function.
+    Submit(FnNo, Request),
+    /// The device serves a block of a request, or finds that it cannot.
+    Tick,
+    /// The host asks for something.
+    Host(HostCommand),
+    /// The host handles what a function waits for.
+    Handle(FnNo),
+}
