@@ -5,7 +5,7 @@ use Rattle.nesc_requests.specs.Script.{with_numbered}
 use Rattle.nesc_requests.specs.declared.host.HostAnswer.{HostAnswer}
 use Rattle.nesc_requests.specs.declared.host.HostAnswer.TheVariants.{FileTaken, FunctionTaken, NoFile, Ok}
 use Rattle.file_model.specs.Files.{HasName, IsNamed, IsUnnamed}
-use Rattle.file_model.specs.Functions.{Function, function_of, is_off, is_taken}
+use Rattle.file_model.specs.Functions.{Function, function_at, is_off, is_taken}
 use Rattle.file_model.specs.HostCommands.{AttachStep, attached_to}
 use Rattle.file_model.proofs.Deciding.{found, named_file, named_file-None, named_file-Some, named_or_not}
 
@@ -18,7 +18,7 @@ module _ (files : Files) (old : List Function) (f : ℕ) (name : List ℕ) where
   abbrev pub attachment_by : ℕ → Bool → Bool → Attachment
   attachment_by number false taken = record { answer = FunctionTaken; functions = old }
   attachment_by number true true = record { answer = FileTaken; functions = old }
-  attachment_by number true false = record { answer = Ok; functions = with_numbered old f (attached_to (function_of old f) number) }
+  attachment_by number true false = record { answer = Ok; functions = with_numbered old f (attached_to (function_at old f) number) }
 
   abbrev pub attachment_of : Option (ℕ × File) → Attachment
   attachment_of None = record { answer = NoFile; functions = old }
@@ -69,9 +69,9 @@ module _ (files : Files) (old : List Function) (f : ℕ) (name : List ℕ) where
     given = record { after = _; becomes = refl; others = refl };
   }
 
-  steps_of : (decided : IsNamed files name ⊎ IsUnnamed files name) → Steps (attachment_of (found files name decided))
-  steps_of (inl (number, file, named)) = steps_by number file (is_off old f) (is_taken old number) named refl refl
-  steps_of (inr unnamed) = (unnamed, refl)
+  steps_made : (decided : IsNamed files name ⊎ IsUnnamed files name) → Steps (attachment_of (found files name decided))
+  steps_made (inl (number, file, named)) = steps_by number file (is_off old f) (is_taken old number) named refl refl
+  steps_made (inr unnamed) = (unnamed, refl)
 
   pub attachment_steps : Steps attachment
-  attachment_steps = steps_of (named_or_not files name)
+  attachment_steps = steps_made (named_or_not files name)

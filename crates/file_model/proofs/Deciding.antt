@@ -83,7 +83,7 @@ unused_from files n (suc left) first all below =
     let within : n ≤ 32 = omega arith in
     elim (used_or_not (get files n)) [
       | inl used ↦ unused_from files (n + 1) left later fewer (used_more files n below used)
-      | inr unused ↦ inl (n, record { first = first; last = within; unused = unused; lower = below })
+      | inr unused ↦ inl (n, record { first = first; among = within; unused = unused; lower = below })
     ]
 
 -- a number is the lowest that is unused, or each is used
@@ -124,10 +124,10 @@ module _ (files : Files) where
 
   unused-Some : (n : ℕ) (decided : ((n : ℕ) × IsLowestUnused files n) ⊎ IsFull files) → IsLowestUnused files n → unused decided ≡ Some n
   unused-Some n (inl other) lowest = ap Some (lowest_one files other.0 n other.1 lowest)
-  unused-Some n (inr full) lowest = absurd (nothing_there _ lowest.unused (full n lowest.first lowest.last))
+  unused-Some n (inr full) lowest = absurd (nothing_there _ lowest.unused (full n lowest.first lowest.among))
 
   unused-None : (decided : ((n : ℕ) × IsLowestUnused files n) ⊎ IsFull files) → IsFull files → unused decided ≡ None
-  unused-None (inl lowest) full = absurd (nothing_there _ lowest.1.unused (full lowest.0 lowest.1.first lowest.1.last))
+  unused-None (inl lowest) full = absurd (nothing_there _ lowest.1.unused (full lowest.0 lowest.1.first lowest.1.among))
   unused-None (inr full) other = refl
 
   -- the lowest number that is unused, if there is one

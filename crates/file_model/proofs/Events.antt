@@ -8,7 +8,7 @@ use Rattle.nesc_requests.specs.declared.host.HostAnswer.{HostAnswer}
 use Rattle.nesc_requests.specs.declared.host.HostCommand.{HostCommand}
 use Rattle.nesc_requests.specs.declared.host.HostCommand.TheVariants.{Attach, Create, Get, Put}
 use Rattle.file_model.specs.Files.{Change, LeadsTo}
-use Rattle.file_model.specs.Functions.{Function, function_of}
+use Rattle.file_model.specs.Functions.{Function, function_at}
 use Rattle.file_model.specs.Given.{fetched_in}
 use Rattle.file_model.specs.HostCommands.{HostStep}
 use Rattle.file_model.specs.State.{State}
@@ -33,12 +33,12 @@ hosted old command = let to = answered old.now command in hosting old to.answer 
 -- what an event comes to where so many nodes are fetched
 abbrev pub come : Setting → State → Event → ℕ → Coming
 come setting old (Submit f request) fetched =
-    let to = submitted setting.machine.queue (function_of old.functions f.0) request in
+    let to = submitted setting.machine.queue (function_at old.functions f.0) request in
     record { answer = to.0; reply = None; changes = []; functions = with_numbered old.functions f.0 to.1; last = old.last }
 come setting old Tick fetched = ticked old fetched
 come setting old (Host command) fetched = hosted old command
 come setting old (Handle f) fetched =
-    let to = handling old.now (function_of old.functions f.0) in record {
+    let to = handling old.now (function_at old.functions f.0) in record {
       answer = happened.Handled f to.handled;
       reply = to.reply;
       changes = to.changes;
@@ -62,7 +62,7 @@ pub come_one : (setting : Setting) (old : State) (event : Event) (coming : Comin
     → Comes setting old event coming → LeadsTo old.now coming.changes new → coming ≡ come setting old event (fetched_in coming.answer)
 come_one setting old (Submit f request) coming new set comes leads =
     let submits = comes.submits in
-    let same = submitted_one setting.machine.queue (function_of old.functions f.0) request coming.answer submits.after submits.becomes in
+    let same = submitted_one setting.machine.queue (function_at old.functions f.0) request coming.answer submits.after submits.becomes in
     let functions = submits.others ∙ (λ i. with_numbered old.functions f.0 (same i).1) in
     λ i. record { answer = (same i).0; reply = comes.silent i; changes = comes.unchanged i; functions = functions i; last = comes.same_last i }
 come_one setting old Tick coming new set comes leads = ticked_one old coming comes
@@ -71,7 +71,7 @@ come_one setting old (Host command) coming new set comes leads =
     ∙ hosted_one old command comes.said coming.changes coming.functions new set comes.answers leads
 come_one setting old (Handle f) coming new set comes leads =
     let handles = comes.handles in
-    let function = function_of old.functions f.0 in
+    let function = function_at old.functions f.0 in
     let same = handling_one old.now function f comes.handled coming.reply coming.changes handles.after handles.becomes comes.counts in
     let answer = comes.told ∙ (λ i. happened.Handled f (same i).handled) in
     let functions = handles.others ∙ (λ i. with_numbered old.functions f.0 (same i).after) in
@@ -98,7 +98,7 @@ module _ (setting : Setting) (old : State) where
   pub come_comes : (event : Event) → CanCome setting old event (come setting old event 0)
   come_comes (Submit f request) =
       let most = setting.machine.queue in
-      let function = function_of old.functions f.0 in record {
+      let function = function_at old.functions f.0 in record {
         comes = record {
           submits = record { after = _; becomes = submitted_submits most function request; others = refl };
           silent = refl;
@@ -111,7 +111,7 @@ module _ (setting : Setting) (old : State) where
   come_comes Tick = ticked_comes setting old
   come_comes (Host command) = hosted_comes command
   come_comes (Handle f) =
-      let can = handling_handles old.now (function_of old.functions f.0) f in record {
+      let can = handling_handles old.now (function_at old.functions f.0) f in record {
         comes = record {
           handled = _;
           handles = record { after = _; becomes = can.handles; others = refl };

@@ -79,7 +79,7 @@ IsHeldBelow-with_zeros length body (v ∷ blocks) within below =
 
 pub IsFileSet-Creates : (old : Files) (n : ℕ) (name : List ℕ) (length : ℕ) (new : Files) → IsTrue (is_name name) → length ≤ longest_file → IsFileSet old → Creates old n name length new → IsFileSet new
 IsFileSet-Creates old n name length new named short set made = subst IsFileSet (sym made.result)
-    (IsFileSet-insert old n (record { name = name; length = length; body = empty }) set (made.lowest.first, made.lowest.last)
+    (IsFileSet-insert old n (record { name = name; length = length; body = empty }) set (made.lowest.first, made.lowest.among)
     (record { named = named; short = short; within = λ v some. absurd (nowhere Block v some) }) (λ m other apart stands. made.unnamed m other stands))
 
 pub IsFileSet-Holds : (old : Files) (n : ℕ) (blocks : List ℕ) (new : Files) → IsFileSet old → Holds old n blocks new → IsFileSet new

@@ -15,7 +15,7 @@ use Rattle.nesc_requests.specs.declared.request.Request.{Request}
 use Rattle.nesc_requests.specs.declared.request.Request.TheVariants.{Read, Write}
 use Rattle.nesc_requests.specs.Script.{IsWithinLimits}
 use Rattle.file_model.specs.Files.{Change, MayChange, holding, puts_from}
-use Rattle.file_model.specs.Functions.{Attached, Function, function_of}
+use Rattle.file_model.specs.Functions.{Attached, Function, function_at}
 use Rattle.file_model.specs.Handlings.{Handles}
 use Rattle.file_model.specs.HostCommands.{AnswersFor, HostStep}
 use Rattle.file_model.specs.Laws.{KeepsSets, MayCome}
@@ -95,7 +95,7 @@ may_event setting old (Host command) coming may comes =
     may_host coming.changes old.now old.functions command comes.said coming.functions may comes.answers
 may_event setting old (Handle f) coming may comes =
     let handles = comes.handles in
-    may_handle coming.changes old.now f (function_of old.functions f.0) comes.handled coming.reply handles.after handles.becomes
+    may_handle coming.changes old.now f (function_at old.functions f.0) comes.handled coming.reply handles.after handles.becomes
 
 pub sets_stay : (event : Event) → KeepsSets event
 sets_stay event may setting old changes outcome new set step =

@@ -8,7 +8,7 @@ use Rattle.nesc_base.specs.declared.numbers.FnNo.{FnNo}
 use Rattle.nesc_requests.specs.Script.{numbered, with_numbered}
 use Rattle.nesc_requests.specs.declared.event.Event.TheVariants.{Tick}
 use Rattle.nesc_requests.specs.declared.request.Queued.{Queued}
-use Rattle.file_model.specs.Functions.{Attached, Function, function_of, in_turn, is_empty, is_ready, is_runnable, next_runnable, off}
+use Rattle.file_model.specs.Functions.{Attached, Function, function_at, in_turn, is_empty, is_ready, is_runnable, next_runnable, off}
 use Rattle.file_model.specs.Given.{fetched_in}
 use Rattle.file_model.specs.State.{State}
 use Rattle.file_model.specs.Ticks.{Ticks, Turn}
@@ -25,7 +25,7 @@ turned_to old f to = record {
   answer = to.answer;
   reply = to.reply;
   changes = to.changes;
-  functions = with_numbered old.functions f.0 (record (function_of old.functions f.0) { attached = Some to.after });
+  functions = with_numbered old.functions f.0 (record (function_at old.functions f.0) { attached = Some to.after });
   last = f.0;
 }
 
@@ -35,7 +35,7 @@ ticked_by old fetched f (Some turn) = turned_to old f (turned (file_at old.now t
 
 abbrev pub ticked_for : State → ℕ → Option ℕ → Coming
 ticked_for old fetched None = idle old
-ticked_for old fetched (Some f) = ticked_by old fetched (record { 0 = f }) (turn_of (record { 0 = f }) (function_of old.functions f))
+ticked_for old fetched (Some f) = ticked_by old fetched (record { 0 = f }) (turn_of (record { 0 = f }) (function_at old.functions f))
 
 -- what a tick comes to where so many nodes are fetched
 abbrev pub ticked : State → ℕ → Coming
@@ -54,7 +54,7 @@ ticked_one old coming (inr takes) =
     let file = file_at old.now serves.turn.attached.file in
     let turns = turned_one file serves.turn coming.answer coming.reply coming.changes serves.after serves.turns in
     let functions = takes.serves.others ∙ ap (with_numbered old.functions takes.f.0) serves.result in
-    let turn = turn_of-Some takes.f (function_of old.functions takes.f.0) serves.turn serves.is in
+    let turn = turn_of-Some takes.f (function_at old.functions takes.f.0) serves.turn serves.is in
     (λ i. record coming { functions = functions i; last = takes.last_is i })
     ∙ ap (turned_to old takes.f) turns
     ∙ sym (ap (ticked_for old fetched) takes.next ∙ ap (ticked_by old fetched takes.f) turn)
@@ -76,7 +76,7 @@ attached_from_function None = refl
 attached_from_function (Some function) = refl
 
 module _ (setting : Setting) (old : State) (f : FnNo) (next : next_runnable old.functions old.last ≡ Some f.0) where
-  taken_with : (attached : Attached) (queue : List Queued) → (function_of old.functions f.0).attached ≡ Some attached
+  taken_with : (attached : Attached) (queue : List Queued) → (function_at old.functions f.0).attached ≡ Some attached
       → attached.queue ≡ queue → not (is_empty queue) ≡ true → CanCome setting old Tick (ticked_by old 0 f (turn_with f attached queue))
   taken_with attached [] on empty some = absurd (false≢true some)
   taken_with attached (head ∷ rest) on queue some =
@@ -96,7 +96,7 @@ module _ (setting : Setting) (old : State) (f : FnNo) (next : next_runnable old.
         leads = turns.leads;
       }
 
-  taken_at : (has : Option Attached) → (function_of old.functions f.0).attached ≡ has → is_ready has ≡ true
+  taken_at : (has : Option Attached) → (function_at old.functions f.0).attached ≡ has → is_ready has ≡ true
       → CanCome setting old Tick (ticked_by old 0 f (turn_at f has))
   taken_at None none ready = absurd (false≢true ready)
   taken_at (Some attached) on ready =
@@ -112,7 +112,7 @@ ticked_by_next setting old None none = record {
 }
 ticked_by_next setting old (Some f) next =
     let runnable = found_passes (is_runnable old.functions) (in_turn old.last (length old.functions)) f next in
-    taken_at setting old (record { 0 = f }) next (function_of old.functions f).attached refl
+    taken_at setting old (record { 0 = f }) next (function_at old.functions f).attached refl
     (sym (ap is_ready (attached_from_function (numbered old.functions f))) ∙ runnable)
 
 pub ticked_comes : (setting : Setting) (old : State) → CanCome setting old Tick (ticked old 0)

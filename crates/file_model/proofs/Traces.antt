@@ -5,7 +5,7 @@ use Rattle.std.proofs.lemmas.List.{length-map, map-append}
 use Rattle.std.specs.Option.{option_to_list}
 use Rattle.nesc_requests.specs.Script.{Script}
 use Rattle.nesc_requests.specs.declared.word.Word.{Word}
-use Rattle.file_model.specs.Draws.{Draws, WordTaken, event_of, left_after, left_behind, steps_of, words_of}
+use Rattle.file_model.specs.Draws.{Draws, WordTaken, event_of, left_after, left_behind, steps_made, words_in}
 use Rattle.file_model.specs.Groups.{Group, end_group, group_of, told}
 use Rattle.file_model.specs.Machine.{IsStep, Run, StepTaken}
 use Rattle.file_model.specs.Misses.{MeetsMissLaw, MissLaw}
@@ -29,19 +29,19 @@ MeetsMissLaw-append : (steps more : List StepTaken) → MeetsMissLaw steps → M
 MeetsMissLaw-append [] more first law = law
 MeetsMissLaw-append (step ∷ steps) more first law = (first.0, MeetsMissLaw-append steps more first.1 law)
 
-words_of-append : (taken more : List WordTaken) → words_of (taken ++ more) ≡ words_of taken ++ words_of more
-words_of-append taken more = map-append (λ (taken : WordTaken). taken.word) taken more
+words_in-append : (taken more : List WordTaken) → words_in (taken ++ more) ≡ words_in taken ++ words_in more
+words_in-append taken more = map-append (λ (taken : WordTaken). taken.word) taken more
 
-steps_of-append : (taken more : List WordTaken) → steps_of (taken ++ more) ≡ steps_of taken ++ steps_of more
-steps_of-append taken more = flat_map-append (λ (taken : WordTaken). option_to_list taken.step) taken more
+steps_made-append : (taken more : List WordTaken) → steps_made (taken ++ more) ≡ steps_made taken ++ steps_made more
+steps_made-append taken more = flat_map-append (λ (taken : WordTaken). option_to_list taken.step) taken more
 
 module _ (setting : Setting) where
-  LegalRun-append : (old : State) (taken more : List WordTaken) (mid new : State) → LegalRun setting old (steps_of taken) mid
-      → LegalRun setting mid (steps_of more) new → LegalRun setting old (steps_of (taken ++ more)) new
+  LegalRun-append : (old : State) (taken more : List WordTaken) (mid new : State) → LegalRun setting old (steps_made taken) mid
+      → LegalRun setting mid (steps_made more) new → LegalRun setting old (steps_made (taken ++ more)) new
   LegalRun-append old taken more mid new first second =
-      subst (λ (steps : List StepTaken). LegalRun setting old steps new) (sym (steps_of-append taken more)) (record {
-        run = Run-append setting old (steps_of taken) (steps_of more) mid new first.run second.run;
-        law = MeetsMissLaw-append (steps_of taken) (steps_of more) first.law second.law;
+      subst (λ (steps : List StepTaken). LegalRun setting old steps new) (sym (steps_made-append taken more)) (record {
+        run = Run-append setting old (steps_made taken) (steps_made more) mid new first.run second.run;
+        law = MeetsMissLaw-append (steps_made taken) (steps_made more) first.law second.law;
       })
 
   pub IsTrace-none : (old : State) (script : Script) → IsTrace setting old script [] [] old script
@@ -82,8 +82,8 @@ module _ (setting : Setting) where
   IsTrace-append old script words more groups others mid new left rest first second = record {
     taken = first.taken ++ second.taken;
     words_taken =
-        words_of-append first.taken second.taken
-        ∙ ap (λ (some : List Word). some ++ words_of second.taken) first.words_taken
+        words_in-append first.taken second.taken
+        ∙ ap (λ (some : List Word). some ++ words_in second.taken) first.words_taken
         ∙ ap (◌++◌ words) second.words_taken;
     draws = Draws-append script first.taken second.taken left rest first.draws second.draws;
     run = LegalRun-append old first.taken second.taken mid new first.run second.run;

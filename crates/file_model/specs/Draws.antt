@@ -1,4 +1,4 @@
--- What a schedule makes of a script: each word draws an event from what is left to give.
+-- What a schedule makes of a script: each word draws an event from what is left to give, which is what is next of it.
 use Rattle.std.specs.Prelude.{◌≡◌, List, [], ◌∷◌, drop, map, slice_get, Option, Some, None, option_map, option_to_list}
 use Rattle.std.specs.List.{flat_map}
 use Rattle.nesc_requests.specs.declared.event.Event.{Event}
@@ -10,7 +10,7 @@ use Rattle.file_model.specs.Machine.{StepTaken}
 use Rattle.file_model.specs.declared.outcome.Answer.{Answer}
 use Rattle.file_model.specs.declared.outcome.Answer.TheVariants.{Queued}
 
--- a word as it was taken: the step that it made, or none where the host or the guest whose turn it was had nothing left
+-- a word as it was taken: the step that it drew, or none where the host or the guest whose turn it was had nothing left
 pub record WordTaken : Type 0 where
   pub word : Word
   pub step : Option StepTaken
@@ -40,8 +40,8 @@ Draws script (taken ∷ more) later =
     (event_of script taken.word ≡ option_map (λ step. step.event) taken.step) × Draws (left_behind script taken.step) more later
 
 -- the words, and the steps that they made
-abbrev pub words_of : List WordTaken → List Word
-words_of = map (λ taken. taken.word)
+abbrev pub words_in : List WordTaken → List Word
+words_in = map (λ taken. taken.word)
 
-abbrev pub steps_of : List WordTaken → List StepTaken
-steps_of = flat_map (λ taken. option_to_list taken.step)
+abbrev pub steps_made : List WordTaken → List StepTaken
+steps_made = flat_map (λ taken. option_to_list taken.step)

@@ -47,7 +47,7 @@ IsFull files = (n : ℕ) → 1 ≤ n → n ≤ most_files → IsSome (get files 
 -- the number is used by no file, and each lower one is
 pub record IsLowestUnused (files : Files) (n : ℕ) : Type 0 where
   pub first : 1 ≤ n
-  pub last : n ≤ most_files
+  pub among : n ≤ most_files
   pub unused : get files n ≡ None
   pub lower : (m : ℕ) → 1 ≤ m → m < n → IsSome (get files m)
 

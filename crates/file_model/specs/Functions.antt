@@ -30,13 +30,13 @@ fresh file = record { file = file; queue = []; done = 0; waiting = None }
 -- Functions, numbered from 1
 
 -- the function of a number; where there is none, one that is off
-abbrev pub function_of : List Function → ℕ → Function
-function_of functions f = unwrap_or (numbered functions f) off
+abbrev pub function_at : List Function → ℕ → Function
+function_at functions f = unwrap_or (numbered functions f) off
 
 -- the function of a number becomes another in this way, and the others stay
 pub record Becomes (way : Function → Function → Type 0) (f : ℕ) (old new : List Function) : Type 0 where
   pub after : Function
-  pub becomes : way (function_of old f) after
+  pub becomes : way (function_at old f) after
   pub others : new ≡ with_numbered old f after
 
 -- what the function of a number has

@@ -1,4 +1,4 @@
--- What is given to the machine: which line of a tick comes, with the number of nodes of a tree that were fetched.
+-- What is given to the machine: how many nodes of a tree a step fetches.
 use Rattle.std.specs.Prelude.{◌≡◌, ℕ}
 use Rattle.file_model.specs.declared.outcome.Answer.{Answer}
 use Rattle.file_model.specs.declared.outcome.Answer.TheVariants.{Served, Missed}

@@ -1,4 +1,4 @@
--- What a trace says of each step.
+-- What a trace says of each word.
 use Rattle.std.specs.Prelude.{ℕ, List, [], Option, Some, None, option_map}
 use Rattle.nesc_base.specs.declared.block.Block.{Block}
 use Rattle.nesc_base.specs.declared.numbers.FnNo.{FnNo}
@@ -42,7 +42,7 @@ pub record ReplyLine : Type 0 where
   pub id : ℕ
   pub end : EndTold
 
--- a path of a tree that was built: its function, the blocks that its leaf covers, from the first to before the last, and
+-- a path of a tree that was built: its function, the blocks that its leaf covers, from the first to the first past it, and
 -- how many nodes it has that were not there
 pub record PathLine : Type 0 where
   pub f : FnNo
@@ -50,8 +50,8 @@ pub record PathLine : Type 0 where
   pub to : ℕ
   pub nodes : ℕ
 
--- the lines of one step: the clock of a commit before it, what happened, the functions whose trees were given up, the path
--- that was built, the clock of a flush or a sync, and the reply
+-- the lines of one word: the clock of a commit before it, what happened, the functions whose trees were given up, in rising
+-- order, the path that was built, the clock of a flush or a sync, and the reply
 pub record Group : Type 0 where
   pub before : Option ℕ
   pub line : Line

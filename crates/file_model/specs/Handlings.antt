@@ -28,7 +28,7 @@ abbrev pub Handles : Files → FnNo → Function → Handled → Option Reply �
 Handles files f old handled.None reply changes new = (waiting_of old ≡ None) × (reply ≡ None) × (changes ≡ []) × (new ≡ old)
 Handles files f old (handled.Held count) reply changes new = HoldsFirst files old count reply changes new
 
--- how many blocks are held: all that are wanted
+-- How many blocks are held: all that are wanted. That stands apart from what a handling does, so that a limit is said here.
 abbrev pub HasCount : File → Miss → Handled → Type 0
 HasCount file miss (handled.Held count) = count ≡ length (wanted file miss)
 HasCount file miss other = Unit {0}

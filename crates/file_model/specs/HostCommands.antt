@@ -30,7 +30,9 @@ pub record GetsBlocks (files : Files) (name : List ℕ) (v n : ℕ) (blocks : Li
   pub read : blocks ≡ read_from file v n
 
 -- What a command on files alone is answered, and which changes it makes. A command has the first answer that applies, in
--- the order in which they stand here, and a refused one changes nothing. Where a file can be made is said by the change.
+-- the order in which they stand here, and a refused one changes nothing.
+-- Of a create that is `Ok` this says only that one change is made: that the name is free, and the number the lowest, is said
+-- by `Changes`, in whatever takes the list.
 abbrev pub AnswersFor : Files → HostCommand → HostAnswer → List Change → Type 0
 AnswersFor old (Create name len) Exists changes = IsNamed old name × (changes ≡ [])
 AnswersFor old (Create name len) NoSlot changes = IsUnnamed old name × IsFull old × (changes ≡ [])

@@ -88,16 +88,16 @@ abbrev pub reply_text : Option ReplyLine → List ℕ
 reply_text None = []
 reply_text (Some reply) = codes "r " ++ function_text reply.f ++ codes " " ++ decimal reply.id ++ codes " " ++ end_text reply.end ++ codes "\n"
 
--- the lines of one step
+-- the lines of one word
 abbrev pub group_text : Group → List ℕ
 group_text group =
     commit_text group.before ++ line_text group.line ++ flat_map drop_text group.drops ++ path_text group.built ++ commit_text group.after
     ++ reply_text group.reply
 
--- the line behind the last step
+-- the last line, which says how many words there were
 abbrev pub done_text : ℕ → List ℕ
 done_text steps = codes "done " ++ decimal steps ++ codes "\n"
 
--- the whole trace, which has a group of lines for each step
+-- the whole trace, which has a group of lines for each word
 abbrev pub trace_text : List Group → List ℕ
 trace_text groups = flat_map group_text groups ++ done_text (length groups)

@@ -9,7 +9,7 @@ use Rattle.nesc_requests.specs.declared.request.Reply.{Reply}
 use Rattle.nesc_requests.specs.declared.request.Request.{Request}
 use Rattle.nesc_base.specs.Files.{Files}
 use Rattle.file_model.specs.Files.{Change, LeadsTo, staged}
-use Rattle.file_model.specs.Functions.{Becomes, Function, function_of}
+use Rattle.file_model.specs.Functions.{Becomes, Function, function_at}
 use Rattle.file_model.specs.Handlings.{CountsWanted, Handles}
 use Rattle.file_model.specs.HostCommands.{HostStep}
 use Rattle.file_model.specs.State.{State}
@@ -42,11 +42,11 @@ pub record AnswersHost (old : State) (command : HostCommand) (answer : Answer) (
 pub record AnswersHandling (old : State) (f : FnNo) (answer : Answer) (reply : Option Reply) (changes : List Change) (functions : List Function) (last : ℕ) : Type 0 where
   pub handled : Handled
   pub handles : Becomes (λ one other. Handles old.now f one handled reply changes other) f.0 old.functions functions
-  pub counts : CountsWanted old.now (function_of old.functions f.0) handled
+  pub counts : CountsWanted old.now (function_at old.functions f.0) handled
   pub told : answer ≡ happened.Handled f handled
   pub same_last : last ≡ old.last
 
--- what an event comes to: the answer, the reply, the changes of the files, the functions, and which was served last
+-- what an event comes to: the answer, the reply, the changes of the files, the functions, and which was taken last
 abbrev pub ComesTo : Setting → State → Event → Answer → Option Reply → List Change → List Function → ℕ → Type 0
 ComesTo setting old (Submit f request) answer reply changes functions last = HandsIn setting old f request answer reply changes functions last
 ComesTo setting old Tick answer reply changes functions last = Ticks old answer reply changes functions last
@@ -55,7 +55,8 @@ ComesTo setting old (Handle f) answer reply changes functions last = AnswersHand
 
 -- Steps
 
--- The event leads from the old state to the new one, by these changes of the files, and comes to this outcome.
+-- The event leads from the old state to the new one, by these changes of the files, and comes to this outcome. There are no
+-- commits yet, so what was kept stays, and the count of staged blocks only rises.
 pub record Step (setting : Setting) (old : State) (event : Event) (changes : List Change) (outcome : Outcome) (new : State) : Type 0 where
   pub files : Files
   pub functions : List Function

@@ -1,10 +1,10 @@
--- Which line a tick shows at a block below the file's length.
+-- How many nodes of a tree a step fetches.
 use Rattle.std.specs.Prelude.{◌≡◌, List}
 use Rattle.std.specs.List.{AllByRecursion}
 use Rattle.file_model.specs.Given.{fetched_in}
 use Rattle.file_model.specs.Machine.{StepTaken}
 
--- There are no trees yet, so no node of one is fetched: each block is found where it is held, or is found not to be.
+-- There are no trees yet, so no node of one is fetched.
 abbrev pub MissLaw : StepTaken → Type 0
 MissLaw step = fetched_in step.outcome.answer ≡ 0
 

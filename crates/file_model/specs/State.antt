@@ -8,7 +8,7 @@ pub record State : Type 0 where
   -- the files after the steps so far, and as they were kept last
   pub now : Files
   pub kept : Files
-  -- each function, numbered from 1, and the number of the one that was served last, or 0
+  -- each function, numbered from 1, and the number of the one that was taken last, or 0
   pub functions : List Function
   pub last : ℕ
   -- how many blocks were staged since the files were kept

@@ -1,4 +1,5 @@
--- A tick: the next function that is runnable is served one block of its first request, or waits.
+-- A tick: the next function that is runnable is served one block of its first request, or waits. It is `Ticks`, at the end:
+-- idle, or a turn that is taken (`TakesTurn`, `Serves`), and of that by its line `EndsPast`, `ServesBlock` or `WaitsForBlock`.
 use Rattle.std.specs.Prelude.{◌≡◌, ◌⊎◌, ℕ, ◌+◌, ◌-◌, ◌<◌, ◌≤◌, nat_le, if◌then◌else◌, Bool, true, false, List, [], ◌∷◌, slice_index_or, slice_set, Option, Some, None}
 use Rattle.nesc_base.specs.Block.{zero_block}
 use Rattle.nesc_base.specs.declared.numbers.FnNo.{FnNo}
@@ -140,6 +141,6 @@ pub record TakesTurn (old : State) (answer : Answer) (reply : Option Reply) (cha
   pub serves : Becomes (λ one other. Serves old.now f one answer reply changes other) f.0 old.functions functions
   pub last_is : last ≡ f.0
 
--- A tick takes as given which line comes, and says what it does. Which line comes is said in `Misses`.
+-- A tick takes as given how many nodes of a tree it fetches. That is said in `Misses`.
 abbrev pub Ticks : State → Answer → Option Reply → List Change → List Function → ℕ → Type 0
 Ticks old answer reply changes functions last = IsIdle old answer reply changes functions last ⊎ TakesTurn old answer reply changes functions last

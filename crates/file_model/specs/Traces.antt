@@ -1,14 +1,13 @@
 -- The trace of a schedule.
 use Rattle.std.specs.Prelude.{◌≡◌, List, map}
 use Rattle.nesc_base.specs.declared.geometry.Geometry.{Geometry}
-use Rattle.nesc_base.specs.Files.{Files}
 use Rattle.nesc_requests.specs.Script.{Script}
 use Rattle.nesc_requests.specs.declared.word.Word.{Word}
-use Rattle.file_model.specs.Draws.{Draws, WordTaken, steps_of, words_of}
+use Rattle.file_model.specs.Draws.{Draws, WordTaken, steps_made, words_in}
 use Rattle.file_model.specs.Groups.{Group, told}
 use Rattle.file_model.specs.Machine.{Run, StepTaken}
 use Rattle.file_model.specs.Misses.{MeetsMissLaw}
-use Rattle.file_model.specs.State.{State, start}
+use Rattle.file_model.specs.State.{State}
 use Rattle.file_model.specs.declared.setting.Setting.{Setting}
 
 -- a run of the plain machine that meets the law of misses
@@ -16,19 +15,15 @@ pub record LegalRun (setting : Setting) (old : State) (steps : List StepTaken) (
   pub run : Run setting old steps new
   pub law : MeetsMissLaw steps
 
--- The words draw a legal run from the script, and each of them has a group of lines. They lead from the old state to the
--- new one, and leave the rest of the script.
+-- A legal trace: the words draw a legal run from the script, and each of them has a group of lines. They lead from the old
+-- state to the new one, and leave the rest of the script.
 pub record IsTrace (setting : Setting) (old : State) (script : Script) (words : List Word) (groups : List Group) (new : State) (rest : Script) : Type 0 where
   pub taken : List WordTaken
-  pub words_taken : words_of taken ≡ words
+  pub words_taken : words_in taken ≡ words
   pub draws : Draws script taken rest
-  pub run : LegalRun setting old (steps_of taken) new
+  pub run : LegalRun setting old (steps_made taken) new
   pub groups_told : groups ≡ map told taken
 
 -- the setting of a script over the files of an image that is divided so
 abbrev pub setting_of : Script → Geometry → Setting
 setting_of script geometry = record { machine = script.machine; geometry = geometry }
-
--- the trace of all words over all of the script, from these files on
-abbrev pub IsWholeTrace : Geometry → Files → Script → List Word → List Group → State → Script → Type 0
-IsWholeTrace geometry files script = IsTrace (setting_of script geometry) (start (setting_of script geometry) files) script

@@ -17,8 +17,8 @@ pub fn file_sets_stay_in_steps()
     ensures { (event : Event) → KeepsSets event }
 {}
 
-/// The definition leaves no choice but how many nodes are fetched: each event makes one list of changes, comes to one
-/// outcome, and leaves one state.
+/// Over files as they may be the definition leaves no choice but how many nodes are fetched: each event makes one list of
+/// changes, comes to one outcome, and leaves one state.
 pub fn one_step()
     ensures { (event : Event) → HasOneStep event }
 {}

@@ -16,7 +16,7 @@ use Rattle.nesc_base.specs.Geometry.{total}
 use Rattle.image_layout.proofs.OneMap.{slice_get-among}
 use Rattle.image_layout.proofs.OneFault.{opens_as_nothing}
 use Rattle.image_layout.proofs.OneReading.{one_superblock}
-use Rattle.image_opening.specs.Parts.{HasOpenGate, IsClosed, IsTurnedDown, IsTurnedDownOnce}
+use Rattle.image_opening.specs.Parts.{HasOpenGate, IsClosed, IsRefusedSoFar, IsRefusedOnce}
 
 -- a block that is read later was there at first
 pub block_here : (old now : Known) (block : Block) (place at : ℕ) → old.tells ≡ true → Goes old now → Unchanged old now
@@ -67,20 +67,20 @@ undivided image (BadTable place) of refused geometry divided = absurd of
 undivided image (BadOwner place) of refused geometry divided = absurd of
 undivided image (TwiceOwned file v) of refused geometry divided = absurd of
 
--- so it is turned down
-pub turned_down : (image : List Block) (fault : ImageFault) → IsOfDivision fault → IsRefused image fault → IsTurnedDown image fault
-turned_down image (BadSuper place) of refused = (refused, λ geometry divided. absurd (undivided image (BadSuper place) of refused geometry divided))
-turned_down image (BadSize place) of refused = (refused, λ geometry divided. absurd (undivided image (BadSize place) of refused geometry divided))
-turned_down image (BadList place) of refused = absurd of
-turned_down image (BadTable place) of refused = absurd of
-turned_down image (BadOwner place) of refused = absurd of
-turned_down image (TwiceOwned file v) of refused = absurd of
+-- so it is refused
+pub refused_so_far : (image : List Block) (fault : ImageFault) → IsOfDivision fault → IsRefused image fault → IsRefusedSoFar image fault
+refused_so_far image (BadSuper place) of refused = (refused, λ geometry divided. absurd (undivided image (BadSuper place) of refused geometry divided))
+refused_so_far image (BadSize place) of refused = (refused, λ geometry divided. absurd (undivided image (BadSize place) of refused geometry divided))
+refused_so_far image (BadList place) of refused = absurd of
+refused_so_far image (BadTable place) of refused = absurd of
+refused_so_far image (BadOwner place) of refused = absurd of
+refused_so_far image (TwiceOwned file v) of refused = absurd of
 
--- why an image is turned down: its gate is open, or it is refused with a closed one
+-- why an image is refused: its gate is open, or it is refused with a closed one
 abbrev Cause : List Block → ImageFault → Type 0
 Cause image fault = ((place : ℕ) × HasOpenGate image place × (fault ≡ BadList place)) ⊎ (IsRefused image fault × IsClosed image)
 
-cause_of : (image : List Block) (fault : ImageFault) → IsTurnedDown image fault → Cause image fault
+cause_of : (image : List Block) (fault : ImageFault) → IsRefusedSoFar image fault → Cause image fault
 cause_of image (BadSuper place) down = inr down
 cause_of image (BadSize place) down = inr down
 cause_of image (BadList place) down = inl (place, down, refl)
@@ -93,8 +93,8 @@ gate_clash : (image : List Block) (place : ℕ) → HasOpenGate image place → 
 gate_clash image place opened closed = false≢true (sym (closed opened.geometry opened.divided) ∙ opened.opened)
 
 -- there is one cause, and the image does not open as it is
-pub turned_down_once : (image : List Block) → IsTurnedDownOnce image
-turned_down_once image fault down = (
+pub refused_once : (image : List Block) → IsRefusedOnce image
+refused_once image fault down = (
   λ geometry files opens. ⊎_elim
       (λ open_gate. gate_clash image open_gate.0 open_gate.1 (closed_here image geometry opens.opens.divided opens.closed))
       (λ refused. (opens_as_nothing image fault refused.0).0 geometry files opens.places opens.opens) (cause_of image fault down),

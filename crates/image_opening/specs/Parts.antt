@@ -47,12 +47,12 @@ IsClosed image = (geometry : Geometry) → IsDivided image geometry → is_open 
 
 -- So far a slot that is to be replayed is refused, whatever its list holds, and what stands behind it is judged only
 -- where there is none.
-abbrev pub IsTurnedDown : List Block → ImageFault → Type 0
-IsTurnedDown image (BadList place) = HasOpenGate image place
-IsTurnedDown image fault = IsRefused image fault × IsClosed image
+abbrev pub IsRefusedSoFar : List Block → ImageFault → Type 0
+IsRefusedSoFar image (BadList place) = HasOpenGate image place
+IsRefusedSoFar image fault = IsRefused image fault × IsClosed image
 
--- an image that is turned down does not open as it is, and is turned down for one cause with one place
-abbrev pub IsTurnedDownOnce : List Block → Type 0
-IsTurnedDownOnce image =
-    (fault : ImageFault) → IsTurnedDown image fault
-    → ((geometry : Geometry) (files : Files) → ¬ OpensAsItIs image geometry files) × ((other : ImageFault) → IsTurnedDown image other → other ≡ fault)
+-- an image that is refused does not open as it is, and is refused for one cause with one place
+abbrev pub IsRefusedOnce : List Block → Type 0
+IsRefusedOnce image =
+    (fault : ImageFault) → IsRefusedSoFar image fault
+    → ((geometry : Geometry) (files : Files) → ¬ OpensAsItIs image geometry files) × ((other : ImageFault) → IsRefusedSoFar image other → other ≡ fault)

@@ -4,7 +4,7 @@
 mod laws;
 mod parts;
 
-pub use laws::turned_down_once;
+pub use laws::refused_once;
 pub use parts::{Parts, read_block, read_parts};
 
 #[cfg(test)]

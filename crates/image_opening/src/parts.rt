@@ -8,7 +8,7 @@ ghost use Rattle.slot_layout.specs.Gate.{is_open};
 ghost use Rattle.image_layout.specs.Opens.{IsDivided, IsMap, lengths_of};
 ghost use Rattle.slot_layout.specs.Slots.{block_at, gate};
 ghost use Rattle.image_layout.specs.Table.{AreEntries, IsTable};
-ghost use Rattle.image_opening.specs.Parts.{AreParts, IsTurnedDown, MayAllOwn};
+ghost use Rattle.image_opening.specs.Parts.{AreParts, IsRefusedSoFar, MayAllOwn};
 
 use image_layout::{
     ImageFault, OpenFault, Table, lengths_of, owners_of, push_owners, read_geometry, table_of,
@@ -38,7 +38,7 @@ pub struct Parts {
 /// `BadList { block: 2 }`, whatever the list holds. `Disk` comes only where the disk failed.
 pub fn read_parts<D: Disk>(alloc: Global, disk: &mut D) -> Result<Parts, OpenFault>
     ensures parts { (D.known disk.old).tells ≡ true → IfOk result (λ parts. AreParts (D.known disk.old).contents parts.geometry parts.table parts.owners.items) }
-    ensures refused { (D.known disk.old).tells ≡ true → (fault : ImageFault) → IsErrOf result (Image fault) → IsTurnedDown (D.known disk.old).contents fault }
+    ensures refused { (D.known disk.old).tells ≡ true → (fault : ImageFault) → IsErrOf result (Image fault) → IsRefusedSoFar (D.known disk.old).contents fault }
     ensures sizes { IfOk result (λ parts. IsGeometry parts.geometry × (total parts.geometry ≤ (D.known disk.old).size)) }
     ensures entries { IfOk result (λ parts. AreEntries parts.table) }
     ensures owners { IfOk result (λ parts. MayAllOwn parts.geometry parts.table parts.owners.items) }
@@ -92,7 +92,7 @@ fn read_owners<D: Disk>(
     ensures owned { (D.known disk.old).tells ≡ true → IfOk result (λ owners. IsMap geometry (D.known disk.old).contents table.now owners.items) }
     ensures refused { (D.known disk.old).tells ≡ true → IsDivided (D.known disk.old).contents geometry → is_open (gate geometry (D.known disk.old).contents 1) ≡ false
         → IsTable (block_at (D.known disk.old).contents (table_at geometry)) table.now
-        → (fault : ImageFault) → IsErrOf result (Image fault) → IsTurnedDown (D.known disk.old).contents fault }
+        → (fault : ImageFault) → IsErrOf result (Image fault) → IsRefusedSoFar (D.known disk.old).contents fault }
     ensures cause { HasCause (D.known disk.old).faults (D.known disk.new).faults (IsErrOf result (Disk _)) }
     ensures unchanged { Unchanged (D.known disk.old) (D.known disk.new) }
     ensures goes { Goes (D.known disk.old) (D.known disk.new) }

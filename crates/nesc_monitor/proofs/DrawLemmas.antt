@@ -24,12 +24,12 @@ use Rattle.file_model.specs.declared.outcome.Answer.{Answer}
 use Rattle.file_model.specs.declared.outcome.Answer.TheVariants as answer
 use Rattle.file_model.specs.declared.outcome.Outcome.{Outcome}
 use Rattle.file_model.specs.declared.setting.Setting.{Setting}
-use Rattle.script_lang.specs.CommandsText.{blocks_in, blocks_in_all}
+use Rattle.script_lang.specs.CommandsText.{command_blocks, blocks_in_all}
 use Rattle.script_lang.specs.Left.{Left}
 use Rattle.script_lang.proofs.LeftLemmas.{given_back-taken}
 use Rattle.nesc_session.specs.Room.{room_brought, room_for, room_for_event, room_to_write}
 use Rattle.nesc_session.specs.Session.{MayStep}
-use Rattle.nesc_monitor.specs.Steps.{ComesBack, MayGiveBack, room_for_script, with_back, with_next, without}
+use Rattle.nesc_monitor.specs.Steps.{ComesBack, MayGiveBack, room_for_script, with_back, with_next, without_drawn}
 
 -- Drawing
 
@@ -63,15 +63,15 @@ drawn_from script H event draws = drawn_of_host script script.host refl event dr
 drawn_from script (I f) event draws = subst (IsDrawn script (I f)) (same_Some _ _ draws) (refl, tt)
 
 -- the host's next command is taken
-pub draws_command : (old new : Script) (command : HostCommand) → old ≡ record new { host = command ∷ new.host } → (event_of old H ≡ Some (Host command)) × (new ≡ without old (Host command))
+pub draws_command : (old new : Script) (command : HostCommand) → old ≡ record new { host = command ∷ new.host } → (event_of old H ≡ Some (Host command)) × (new ≡ without_drawn old (Host command))
 draws_command old new command is = (
   ap (λ (script : Script). event_of script H) is,
-  sym (ap (λ (script : Script). without script (Host command)) is),
+  sym (ap (λ (script : Script). without_drawn script (Host command)) is),
 )
 
 -- and so is a guest's next request
 pub draws_request : (old : Script) (f : FnNo) (request : Request) (left : List Request) (new : Script) → requests_of old f.0 ≡ request ∷ left → new ≡ record old { guests = with_numbered old.guests f.0 left }
-    → (event_of old (G f) ≡ Some (Submit f request)) × (new ≡ without old (Submit f request))
+    → (event_of old (G f) ≡ Some (Submit f request)) × (new ≡ without_drawn old (Submit f request))
 draws_request old f request left new next is = (
   ap (λ (requests : List Request). option_map (λ request. Submit f request) (slice_get requests 0)) next,
   is ∙ ap (λ (requests : List Request). record old { guests = with_numbered old.guests f.0 (drop 1 requests) }) (sym next),
@@ -91,25 +91,25 @@ submitted : {setting : Setting} {old : State} {f : FnNo} {request : Request} {ch
 submitted step = (_, step.comes.submits.after, step.comes.submits.becomes)
 
 back_after : (script : Script) (f : FnNo) (request : Request) (left : List Request) → requests_of script f.0 ≡ request ∷ left → (told : Answer) (most : ℕ) (one other : Function) → Submits most one request told other
-    → with_back (without script (Submit f request)) (G f) told ≡ left_after script (Submit f request) told
+    → with_back (without_drawn script (Submit f request)) (G f) told ≡ left_after script (Submit f request) told
 back_after script f request left next (answer.Queued id) most one other submits = refl
 back_after script f request left next (answer.Off back) most one other submits = back_whole script f request left next back submits.1
   where
-    back_whole : (script : Script) (f : FnNo) (request : Request) (left : List Request) → requests_of script f.0 ≡ request ∷ left → (back : Request) → back ≡ request → with_next (without script (Submit f request)) f.0 back ≡ script
+    back_whole : (script : Script) (f : FnNo) (request : Request) (left : List Request) → requests_of script f.0 ≡ request ∷ left → (back : Request) → back ≡ request → with_next (without_drawn script (Submit f request)) f.0 back ≡ script
     back_whole script f request left next back same =
-        ap (with_next (without script (Submit f request)) f.0) same
-        ∙ given_back-taken script f.0 request (without script (Submit f request)) (record { left = left; next = next; result = ap (λ (requests : List Request). record script { guests = with_numbered script.guests f.0 (drop 1 requests) }) next })
+        ap (with_next (without_drawn script (Submit f request)) f.0) same
+        ∙ given_back-taken script f.0 request (without_drawn script (Submit f request)) (record { left = left; next = next; result = ap (λ (requests : List Request). record script { guests = with_numbered script.guests f.0 (drop 1 requests) }) next })
 back_after script f request left next (answer.Full back) most one other submits = back_whole script f request left next back submits.1
   where
-    back_whole : (script : Script) (f : FnNo) (request : Request) (left : List Request) → requests_of script f.0 ≡ request ∷ left → (back : Request) → back ≡ request → with_next (without script (Submit f request)) f.0 back ≡ script
+    back_whole : (script : Script) (f : FnNo) (request : Request) (left : List Request) → requests_of script f.0 ≡ request ∷ left → (back : Request) → back ≡ request → with_next (without_drawn script (Submit f request)) f.0 back ≡ script
     back_whole script f request left next back same =
-        ap (with_next (without script (Submit f request)) f.0) same
-        ∙ given_back-taken script f.0 request (without script (Submit f request)) (record { left = left; next = next; result = ap (λ (requests : List Request). record script { guests = with_numbered script.guests f.0 (drop 1 requests) }) next })
+        ap (with_next (without_drawn script (Submit f request)) f.0) same
+        ∙ given_back-taken script f.0 request (without_drawn script (Submit f request)) (record { left = left; next = next; result = ap (λ (requests : List Request). record script { guests = with_numbered script.guests f.0 (drop 1 requests) }) next })
 back_after script f request left next other_answer most one other submits = absurd submits
 
 -- what is left behind the step is what was left behind the drawing, with a request that came back
 pub left_behind : (script : Script) (event : Event) → IsNext script event → {setting : Setting} {old : State} {changes : List Change} {outcome : Outcome} {new : State} → Step setting old event changes outcome new
-    → with_back (without script event) (word_of event) outcome.answer ≡ left_after script event outcome.answer
+    → with_back (without_drawn script event) (word_of event) outcome.answer ≡ left_after script event outcome.answer
 left_behind script (Submit f request) next step = let told = submitted step in back_after script f request next.0 next.1 _ _ told.0 told.1 told.2
 left_behind script Tick next step = refl
 left_behind script (Host command) next step = refl
@@ -146,7 +146,7 @@ guests-take script zero request left at = cc
 guests-take script (suc i) request left at = sum-takes script.guests i request left at
 
 -- what an event can bring is no more in what is left
-pub room-without : (script : Script) (event : Event) → IsNext script event → room_for_event event + room_for_script (without script event) ≡ room_for_script script
+pub room-without : (script : Script) (event : Event) → IsNext script event → room_for_event event + room_for_script (without_drawn script event) ≡ room_for_script script
 room-without script (Submit f request) next =
     let left = ap (λ (requests : List Request). sum_by (sum_by room_to_write) (with_numbered script.guests f.0 (drop 1 requests))) next.1 in
     omega (arith, left, guests-take script f.0 request next.0 next.1)
@@ -169,15 +169,15 @@ room-left_after script (Handle f) next told = omega arith
 
 -- what is left brings no more blocks than it has
 
-room_for-less : (command : HostCommand) → room_for command ≤ blocks_in command
+room_for-less : (command : HostCommand) → room_for command ≤ command_blocks command
 room_for-less (Create name len) = omega arith
 room_for-less (Put name v blocks) = omega arith
 room_for-less (Get name v into) = omega arith
 room_for-less (Attach f name) = omega arith
 
-host_less : (commands : List HostCommand) → sum_by room_for commands ≤ sum_by blocks_in commands
+host_less : (commands : List HostCommand) → sum_by room_for commands ≤ sum_by command_blocks commands
 host_less [] = omega arith
-host_less (command ∷ commands) = omega (arith, sum_by-cons room_for command commands, sum_by-cons blocks_in command commands, room_for-less command, host_less commands)
+host_less (command ∷ commands) = omega (arith, sum_by-cons room_for command commands, sum_by-cons command_blocks command commands, room_for-less command, host_less commands)
 
 room_to_write-less : (request : Request) → room_to_write request ≤ block_count request
 room_to_write-less (Read v into) = omega arith

@@ -7,7 +7,7 @@ use Rattle.nesc_base.specs.Files.{Files}
 use Rattle.nesc_base.specs.Geometry.{total}
 use Rattle.image_layout.specs.declared.fault.ImageFault.{ImageFault}
 use Rattle.image_layout.specs.declared.fault.ImageFault.TheVariants.{BadSuper, BadSize, BadList, BadTable, BadOwner, TwiceOwned}
-use Rattle.image_opening.proofs.PartsLemmas.{turned_down_once}
+use Rattle.image_opening.proofs.PartsLemmas.{refused_once}
 use Rattle.nesc_monitor.specs.Call.{AreKnownAccepted, AreReadWell, Call, IsKnownRefused, OpensKnown}
 use Rattle.nesc_monitor.specs.Endings.{AtAnyMoment, Comes, IsCarriedOut, IsEarly, IsImageRefused, IsInputRefused, IsOfMake, IsOfTexts, IsPastTexts, error_line, status_of}
 use Rattle.nesc_monitor.specs.Making.{ComesOfMake}
@@ -106,9 +106,9 @@ long_clash : (before after : Option (List ℕ)) → Tells before → GivesTooMan
 long_clash None after known long whole = known
 long_clash (Some bytes) after known long whole = omega (arith, long, whole.0)
 
--- an image that is turned down was not opened
+-- an image that is refused was not opened
 image_clash : (disk : Known) (geometry : Geometry) (files : Files) → StartsFrom disk geometry files → IsKnownRefused disk → ⊥
-image_clash disk geometry files starts down = (turned_down_once disk.contents down.fault down.refused).0 geometry files (starts.opens down.known)
+image_clash disk geometry files starts down = (refused_once disk.contents down.fault down.refused).0 geometry files (starts.opens down.known)
 
 module _ (call : Call) where
   -- The command `run`
@@ -177,7 +177,7 @@ module _ (call : Call) where
   carried_out Memory runs texts well opens disk out = runs.2
   carried_out Commands runs texts well opens disk out = absurd (commands_clash call.commands.before texts.commands_known texts.commands runs.0.refused)
   carried_out Schedule runs texts well opens disk out = absurd (schedule_clash call.schedule.before texts.schedule_known texts.schedule runs.0.refused)
-  carried_out (Image fault) runs texts well opens disk out = absurd ((turned_down_once call.image.before.contents fault (runs.1 opens.known)).0 opens.geometry opens.files opens.opens)
+  carried_out (Image fault) runs texts well opens disk out = absurd ((refused_once call.image.before.contents fault (runs.1 opens.known)).0 opens.geometry opens.files opens.opens)
   carried_out Device runs texts well opens disk out = absurd (disk runs.1)
   carried_out Read runs texts well opens disk out = absurd (⊎_elim (λ failed. well.commands failed.0) (λ whole. well.schedule whole.1) runs.0)
   carried_out Write runs texts well opens disk out = absurd (out runs.1)

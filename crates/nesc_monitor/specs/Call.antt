@@ -4,7 +4,7 @@ use Rattle.nesc_base.specs.declared.geometry.Geometry.{Geometry}
 use Rattle.nesc_base.specs.Disk.{Known}
 use Rattle.nesc_base.specs.Files.{Files}
 use Rattle.image_layout.specs.declared.fault.ImageFault.{ImageFault}
-use Rattle.image_opening.specs.Parts.{IsTurnedDown, OpensAsItIs}
+use Rattle.image_opening.specs.Parts.{IsRefusedSoFar, OpensAsItIs}
 use Rattle.nesc_monitor.specs.Reading.{Tells}
 use Rattle.nesc_monitor.specs.Texts.{AreCommands, IsSchedule}
 use Rattle.nesc_monitor.specs.Watched.{HasWorked, Watched, WatchedDisk}
@@ -56,4 +56,4 @@ pub record OpensKnown (disk : Known) : Type 0 where
 pub record IsKnownRefused (disk : Known) : Type 0 where
   pub known : disk.tells ≡ true
   pub fault : ImageFault
-  pub refused : IsTurnedDown disk.contents fault
+  pub refused : IsRefusedSoFar disk.contents fault

@@ -6,7 +6,7 @@ use Rattle.nesc_base.specs.Disk.{Known}
 use Rattle.nesc_requests.specs.Script.{Script}
 use Rattle.nesc_requests.specs.declared.word.Word.{Word}
 use Rattle.image_layout.specs.declared.fault.ImageFault.{ImageFault}
-use Rattle.image_opening.specs.Parts.{IsTurnedDown}
+use Rattle.image_opening.specs.Parts.{IsRefusedSoFar}
 use Rattle.nesc_monitor.specs.Starting.{StartsAndTellsBy}
 use Rattle.nesc_monitor.specs.Texts.{AreTaken, IsInTurn, AreRefusedFor, SaysScript, SaysWords}
 use Rattle.nesc_monitor.specs.Watched.{HasDiskFailed, HasFailed, HasTakenNothing, IsDiskUntouched, Watched, WatchedDisk}
@@ -32,7 +32,7 @@ WritesFront = WritesBy AppendsPrefix
 
 -- where the disk tells what it holds, that is refused for this cause
 abbrev pub IsImageRefusedFor : ImageFault → Known → Type 0
-IsImageRefusedFor fault disk = disk.tells ≡ true → IsTurnedDown disk.contents fault
+IsImageRefusedFor fault disk = disk.tells ≡ true → IsRefusedSoFar disk.contents fault
 
 -- the image is looked at once both texts are accepted
 abbrev pub IsLookedAtLast : Watched → Watched → WatchedDisk → Type 0

@@ -12,7 +12,7 @@ use Rattle.file_model.specs.Traces.{setting_of}
 use Rattle.text_kit.specs.Known.{AppendsPrefix}
 use Rattle.image_layout.specs.declared.fault.OpenFault.{OpenFault}
 use Rattle.image_layout.specs.declared.fault.OpenFault.TheVariants.{NoMemory, Disk, Image}
-use Rattle.image_opening.specs.Parts.{IsTurnedDown, OpensAsItIs}
+use Rattle.image_opening.specs.Parts.{IsRefusedSoFar, OpensAsItIs}
 use Rattle.nesc_monitor.specs.Steps.{TellsTrace}
 use Rattle.nesc_monitor.specs.Watched.{HasFailed, Watched}
 use Rattle.nesc_monitor.specs.declared.ending.Ending.{Ending}
@@ -35,12 +35,11 @@ pub record StartsAndTellsBy (takes : Option (List ℕ) → Option (List ℕ) →
   pub image_opens : StartsFrom image geometry files
   pub trace : TellsTrace takes (setting_of script geometry) (start (setting_of script geometry) files) script words out.before out.after
 
--- The image was opened and all steps were taken and told, or the last line of them was cut short, or why no step was
--- taken.
+-- The image was opened and all words were taken and told, or what is told of them was cut short, or why none was taken.
 abbrev pub StartsAndTells : Ending → Known → Known → Script → List Word → Watched → Type 0
 StartsAndTells ending.Done old new script words out = StartsAndTellsBy Appends old script words out
 StartsAndTells ending.Write old new script words out = HasFailed out × StartsAndTellsBy AppendsPrefix old script words out
 StartsAndTells ending.Memory old new script words out = out.after ≡ out.before
-StartsAndTells (ending.Image fault) old new script words out = (old.tells ≡ true → IsTurnedDown old.contents fault) × (out.after ≡ out.before)
+StartsAndTells (ending.Image fault) old new script words out = (old.tells ≡ true → IsRefusedSoFar old.contents fault) × (out.after ≡ out.before)
 StartsAndTells ending.Device old new script words out = Rose old.faults new.faults × (out.after ≡ out.before)
 StartsAndTells other old new script words out = ⊥

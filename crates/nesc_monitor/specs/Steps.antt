@@ -24,11 +24,11 @@ use Rattle.nesc_session.specs.Room.{room_for, room_to_write}
 
 -- What is drawn
 
--- the script without what the event was drawn from
-abbrev pub without : Script → Event → Script
-without script (Host command) = record script { host = drop 1 script.host }
-without script (Submit f request) = record script { guests = with_numbered script.guests f.0 (drop 1 (requests_of script f.0)) }
-without script event = script
+-- the script without_drawn what the event was drawn from
+abbrev pub without_drawn : Script → Event → Script
+without_drawn script (Host command) = record script { host = drop 1 script.host }
+without_drawn script (Submit f request) = record script { guests = with_numbered script.guests f.0 (drop 1 (requests_of script f.0)) }
+without_drawn script event = script
 
 -- a request that was drawn was taken of its guest, and can be given back
 abbrev pub MayGiveBack : Left → Event → Type 0

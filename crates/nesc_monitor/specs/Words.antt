@@ -18,7 +18,7 @@ make_with blocks slack = None
 abbrev pub make_of : List ℕ → List ℕ → Option Command
 make_of blocks slack = make_with (between 16 65536 (number_of blocks)) (between 64 1024 (number_of slack))
 
--- `run`, or `make --blocks N`, or `make --blocks N --slack S`; without S the slack is 64
+-- `run`, or `make --blocks N`, or `make --blocks N --slack S`; without_drawn S the slack is 64
 abbrev pub command_of : List (List ℕ) → Option Command
 command_of (name ∷ []) = if bytes_eq name (codes "run") then Some Run else None
 command_of (name ∷ key ∷ blocks ∷ []) =

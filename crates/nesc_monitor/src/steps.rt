@@ -1,9 +1,9 @@
-//! A word of the schedule draws an event, which makes one step, and its lines are written.
+//! A word of the schedule draws an event, if there is one, which makes one step, and its lines are written.
 ghost use Rattle.std.specs.Prelude.{◌≡◌, ℕ, IfNone, IfSome};
 ghost use Rattle.nesc_base.specs.Files.{Files};
 ghost use Rattle.file_model.specs.Draws.{event_of};
 ghost use Rattle.nesc_session.specs.Session.{IsReadyFor, MayStep, state_of};
-ghost use Rattle.nesc_monitor.specs.Steps.{ComesBack, MayGiveBack, TellsWord, TellsWords, room_for_script, with_back, without};
+ghost use Rattle.nesc_monitor.specs.Steps.{ComesBack, MayGiveBack, TellsWord, TellsWords, room_for_script, with_back, without_drawn};
 
 use nesc_base::{Sink, WriteFault};
 use nesc_requests::{Event, Word};
@@ -14,7 +14,7 @@ use trace_text::{write_done, write_end, write_step};
 /// The event that a word draws, or `None` where the host or the guest whose turn it is has nothing left to give.
 fn draw(commands: &mut Commands, word: Word) -> Option<Event>
     ensures event { result ≡ event_of commands.old.script word }
-    ensures rest { IfSome result (λ event. commands.new.script ≡ without commands.old.script event) }
+    ensures rest { IfSome result (λ event. commands.new.script ≡ without_drawn commands.old.script event) }
     ensures none { IfNone result (commands.new ≡ commands.old) }
     ensures out { IfSome result (λ event. MayGiveBack commands.new event) }
     ensures fits { IfSome result MayStep }
@@ -40,7 +40,7 @@ fn hand_back(commands: &mut Commands, word: Word, answer: Answer)
     }
 }
 
-/// Takes the step of a word, and then writes its lines.
+/// Takes a word, and then writes its lines.
 fn take_word<K: Sink>(
     session: &mut Session,
     commands: &mut Commands,

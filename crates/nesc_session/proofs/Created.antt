@@ -84,7 +84,7 @@ module _ (blocks : FinMap place_cmp Block) (es : List (Option TableEntry)) {now 
     lowest : length es ≡ most_files → IsLowestUnused now.files (suc e)
     lowest all = record {
       first = omega arith;
-      last = omega (arith, (position-Some is_none es e None is).0);
+      among = omega (arith, (position-Some is_none es e None is).0);
       unused = get-now blocks es view (suc e) ∙ ap (option_map (stored_file blocks (suc e))) get-unused;
       lower = used;
     }

@@ -4,7 +4,7 @@ use Rattle.std.proofs.lemmas.Option.{none-some, same_Some, slice_get-get_or}
 use Rattle.std.specs.Option.{unwrap_or}
 use Rattle.std.specs.Option.{option_and_then, option_map_or}
 use Rattle.nesc_requests.specs.Script.{numbered, with_numbered}
-use Rattle.file_model.specs.Functions.{Becomes, Function, attached_of, function_of, is_off, off}
+use Rattle.file_model.specs.Functions.{Becomes, Function, attached_of, function_at, is_off, off}
 
 module _ {A : Type 0} (xs : List A) (f i : ℕ) (is : f ≡ i + 1) where
   pub numbered-at : numbered xs f ≡ slice_get xs i
@@ -17,8 +17,8 @@ module _ (functions : List Function) (f i : ℕ) (is : f ≡ i + 1) (function : 
   pub numbered-item : numbered functions f ≡ Some function
   numbered-item = numbered-at functions f i is ∙ slice_get-get_or functions i function within ∙ ap Some (sym item)
 
-  pub function_of-item : function_of functions f ≡ function
-  function_of-item = ap (λ o. unwrap_or o off) numbered-item
+  pub function_at-item : function_at functions f ≡ function
+  function_at-item = ap (λ o. unwrap_or o off) numbered-item
 
   pub attached_of-item : attached_of functions f ≡ function.attached
   attached_of-item = ap (option_and_then (λ function. function.attached)) numbered-item
@@ -27,8 +27,8 @@ module _ (functions : List Function) (f i : ℕ) (is : f ≡ i + 1) (function : 
   is_off-item = ap (λ o. option_map_or (λ function. is_none function.attached) o false) numbered-item
 
 -- where there is no such function
-pub function_of-none : (functions : List Function) (f : ℕ) → numbered functions f ≡ None → function_of functions f ≡ off
-function_of-none functions f none = ap (λ o. unwrap_or o off) none
+pub function_at-none : (functions : List Function) (f : ℕ) → numbered functions f ≡ None → function_at functions f ≡ off
+function_at-none functions f none = ap (λ o. unwrap_or o off) none
 
 set-none : {A : Type 0} (xs : List A) (i : ℕ) (x : A) → slice_get xs i ≡ None → slice_set xs i x ≡ xs
 set-none [] i x none = refl
@@ -63,7 +63,7 @@ pub Becomes-item : (functions : List Function) (f i : ℕ) → f ≡ i + 1 → (
     → way item after → Becomes way f functions (slice_set functions i after)
 Becomes-item functions f i is item after within at way becomes = record {
   after = after;
-  becomes = subst (λ (one : Function). way one after) (sym (function_of-item functions f i is item within at)) becomes;
+  becomes = subst (λ (one : Function). way one after) (sym (function_at-item functions f i is item within at)) becomes;
   others = sym (with_numbered-at functions f i is after);
 }
 
@@ -71,6 +71,6 @@ Becomes-item functions f i is item after within at way becomes = record {
 pub Becomes-none : (functions : List Function) (f : ℕ) → numbered functions f ≡ None → (way : Function → Function → Type 0) → way off off → Becomes way f functions functions
 Becomes-none functions f none way becomes = record {
   after = off;
-  becomes = subst (λ (one : Function). way one off) (sym (function_of-none functions f none)) becomes;
+  becomes = subst (λ (one : Function). way one off) (sym (function_at-none functions f none)) becomes;
   others = sym (with_numbered-none functions f off none);
 }

@@ -23,7 +23,7 @@ use Rattle.file_model.specs.declared.outcome.Handled.TheVariants as handled
 use Rattle.file_model.specs.declared.outcome.Outcome.{Outcome}
 use Rattle.file_model.specs.declared.setting.Setting.{Setting}
 use Rattle.nesc_session.specs.Serving.{HandlesFunction, ServesFunction}
-use Rattle.nesc_session.proofs.Items.{Becomes-item, Becomes-none, attached_of-item, function_of-item}
+use Rattle.nesc_session.proofs.Items.{Becomes-item, Becomes-none, attached_of-item, function_at-item}
 use Rattle.nesc_session.proofs.Turns.{found_passes}
 
 -- what an event leaves: these files and functions, with so many blocks more staged
@@ -123,7 +123,7 @@ module _ (setting : Setting) (old : State) where
       comes = record {
         handled = done;
         handles = Becomes-item old.functions f.0 index number item new within is (λ one other. Handles old.now f one done None handles.changes other) handles.handles;
-        counts = subst (λ (function : Function). CountsWanted old.now function done) (sym (function_of-item old.functions f.0 index number item within is)) handles.counts;
+        counts = subst (λ (function : Function). CountsWanted old.now function done) (sym (function_at-item old.functions f.0 index number item within is)) handles.counts;
         told = refl;
         same_last = refl;
       };

@@ -1,8 +1,7 @@
 -- The files that are kept in memory, as the files that they are.
 use Rattle.std.specs.Prelude.{◌≡◌, ℕ, ◌+◌, ◌≤◌, ◌==◌, Bool, false, List, [], ◌∷◌, Option, None, Some, IsSome, unwrap_or, if◌then◌else◌, refl}
-use Rattle.std.specs.Coded.{Coded, code_by, coded×, coded_list, coded_ℕ}
+use Rattle.std.specs.Coded.{Coded, code_by, coded×, coded_ℕ}
 use Rattle.std.specs.Str.{bytes_eq}
-use Rattle.std.specs.FinMap as map
 use Rattle.std.specs.FinMap.{FinMap, entries, from_entries, get, insert}
 use Rattle.nesc_base.specs.declared.block.Block.{Block}
 use Rattle.nesc_requests.specs.declared.host.HostAnswer.{HostAnswer}
@@ -14,7 +13,7 @@ use Rattle.image_layout.specs.declared.table.TableEntry.{TableEntry}
 use Rattle.file_model.specs.Files.{Changes, HasName, IsUnnamed, hold}
 use Rattle.file_model.specs.HostCommands.{IsOutside}
 use Rattle.nesc_session.specs.declared.files.held.Place.{Place}
-use Rattle.nesc_base.specs.Codes.{coded_block}
+use Rattle.file_model.specs.Codes.{coded_files}
 use Rattle.nesc_session.specs.HeldBlocks.{place_cmp}
 
 -- what callers see: the files, and how many blocks more they can come to hold
@@ -22,15 +21,10 @@ pub record FilesInMemory : Type 0 where
   pub files : Files
   pub room : ℕ
 
--- a file is stored as the triple of its fields
-abbrev pub file_code : Coded File
-file_code =
-    code_by (List ℕ × (ℕ × Body)) (coded× (coded_list coded_ℕ) (coded× coded_ℕ (map.code coded_ℕ coded_block))) (λ f. (f.name, (f.length, f.body))) (λ t. record { name = t.0; length = t.1.0; body = t.1.1 }) (λ _. refl)
-
 -- what callers see is stored as the pair of its fields
 abbrev pub files_code : Coded FilesInMemory
 files_code =
-    code_by (Files × ℕ) (coded× (map.code coded_ℕ file_code) coded_ℕ) (λ f. (f.files, f.room)) (λ p. record { files = p.0; room = p.1 }) (λ _. refl)
+    code_by (Files × ℕ) (coded× coded_files coded_ℕ) (λ f. (f.files, f.room)) (λ p. record { files = p.0; room = p.1 }) (λ _. refl)
 
 -- those of all blocks that are the file's, by where they stand in it
 abbrev pub entries_of_file : ℕ → List (Place × Block) → List (ℕ × Block)

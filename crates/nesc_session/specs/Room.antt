@@ -58,7 +58,7 @@ abbrev pub room_submitted : Request → Answer → ℕ
 room_submitted request (answer.Queued id) = room_to_write request
 room_submitted request other = 0
 
--- what an event has brought
+-- what an event has brought at most
 abbrev pub room_brought : Event → Answer → ℕ
 room_brought (Submit f request) told = room_submitted request told
 room_brought event told = room_for_event event

@@ -6,8 +6,8 @@ use Rattle.nesc_requests.specs.Requests.{IsNumbered}
 use Rattle.nesc_requests.specs.declared.event.Event.{Event}
 use Rattle.nesc_requests.specs.declared.event.Event.TheVariants.{Submit}
 use Rattle.file_model.specs.Files.{Change, staged}
-use Rattle.file_model.specs.Given.{fetched_in}
 use Rattle.file_model.specs.Machine.{Step}
+use Rattle.file_model.specs.Misses.{MissLaw}
 use Rattle.file_model.specs.State.{State}
 use Rattle.file_model.specs.declared.outcome.Outcome.{Outcome}
 use Rattle.nesc_session.specs.Room.{room_waited_for}
@@ -27,7 +27,7 @@ state_of kept count session = record {
 pub record Steps (old : Session) (event : Event) (outcome : Outcome) (new : Session) : Type 0 where
   pub changes : List Change
   pub step : (kept : Files) (count : ℕ) → Step old.setting (state_of kept count old) event changes outcome (state_of kept (count + staged changes) new)
-  pub law : fetched_in outcome.answer ≡ 0
+  pub law : (kept : Files) (count : ℕ) → MissLaw (record { old = state_of kept count old; event = event; changes = changes; outcome = outcome; new = state_of kept (count + staged changes) new })
   pub same_setting : new.setting ≡ old.setting
 
 -- the numbers of the blocks of a request fit their type
@@ -35,8 +35,9 @@ abbrev pub MayStep : Event → Type 0
 MayStep (Submit f request) = IsNumbered request
 MayStep event = Unit {0}
 
--- there is room for all blocks that may come to be held for the requests that wait, and for so many more; the function that
--- was served last is one of those that there are; and no more requests wait for one than may
+-- There is room for all blocks that may come to be held for the requests that wait, and for so many more. The function that
+-- was taken last is one of those that there are, of which there are fewer than 2^8, and the machine lets no more requests
+-- wait for one than any machine may.
 pub record IsReadyFor (more : ℕ) (session : Session) : Type 0 where
   pub room : room_waited_for session.files.files session.functions.items + more ≤ session.files.room
   pub last : session.last ≤ length session.functions.items

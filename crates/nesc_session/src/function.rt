@@ -139,7 +139,8 @@ impl Function {
         served(f, v, how, None)
     }
 
-    /// Holds the blocks that it waits for, with zeros. It is ready then.
+    /// Where it waits: holds, with zeros, those of the blocks that it waits for which lie below the file's length and are
+    /// not held, and it is ready then. Else it changes nothing.
     pub fn handle(&mut self, files: &mut Files) -> Handled
         requires { room_of files.old.files self.old ≤ files.old.room }
         ensures handled { (f : FnNo) → HandlesFunction f self.old files.old.files result self.new files.new.files }

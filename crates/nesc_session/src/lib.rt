@@ -4,7 +4,7 @@
 mod files;
 mod function;
 mod functions;
-mod opening;
+mod loading;
 mod session;
 
 pub use file_model::{Answer, Handled, How, Outcome, Setting};

@@ -5,14 +5,14 @@ ghost use Rattle.nesc_requests.specs.Machine.{IsMachine};
 ghost use Rattle.file_model.specs.State.{start};
 ghost use Rattle.image_layout.specs.declared.fault.ImageFault.{ImageFault};
 ghost use Rattle.image_layout.specs.declared.fault.OpenFault.TheVariants.{Disk, Image};
-ghost use Rattle.image_opening.specs.Parts.{IsTurnedDown, OpensAsItIs};
+ghost use Rattle.image_opening.specs.Parts.{IsRefusedSoFar, OpensAsItIs};
 ghost use Rattle.nesc_session.specs.Room.{room_brought, room_for, room_for_event};
 ghost use Rattle.nesc_session.specs.Session.{IsReadyFor, MayStep, Steps, state_of};
 
 use crate::files::Files;
 use crate::function::Function;
 use crate::functions::{index_of_function, is_taken, new_functions, next_index};
-use crate::opening::{Opened, open_files};
+use crate::loading::{Opened, open_files};
 use file_model::{Answer, Handled, Outcome, Setting};
 use image_layout::OpenFault;
 use nesc_base::{Disk, FnNo, Name};
@@ -25,15 +25,18 @@ pub struct Session {
     setting: Setting,
     files: Files,
     functions: Vec<Function>,
-    // the number of the function that was served last, or 0
+    // the number of the function that was taken last, or 0
     last: u8,
 }
 
 impl Session {
     /// The files as which the image on the disk opens, and the functions of the machine, all of them off. There is memory
-    /// for `more` blocks that may come to be held, fewer than 2^31. An `Err` says why the image was not opened, by the first
-    /// cause, or that there is no memory: for the blocks that are held or may come to be, and for the requests that may
-    /// wait. Of the disk each block is read once at most, and none is written.
+    /// for `more` blocks that may come to be held, fewer than 2^31. The numbers of the machine are within their limits: 1
+    /// to 16 functions, and 1 to 64 requests for each.
+    ///
+    /// An `Err` says why the image was not opened, by the first cause, or that there is no memory: for the blocks that are
+    /// held or may come to be, and for the requests that may wait. No block of the disk is written; that each is read once
+    /// at most is tested.
     pub fn begin<D: Disk>(
         alloc: Global,
         machine: Machine,
@@ -46,7 +49,7 @@ impl Session {
         ensures start { IfOk result (λ session. state_of session.files.files 0 session ≡ start session.setting session.files.files) }
         ensures ready { IfOk result (IsReadyFor more) }
         ensures opens { (D.known disk.old).tells ≡ true → IfOk result (λ session. OpensAsItIs (D.known disk.old).contents session.setting.geometry session.files.files) }
-        ensures refused { (D.known disk.old).tells ≡ true → (fault : ImageFault) → IsErrOf result (Image fault) → IsTurnedDown (D.known disk.old).contents fault }
+        ensures refused { (D.known disk.old).tells ≡ true → (fault : ImageFault) → IsErrOf result (Image fault) → IsRefusedSoFar (D.known disk.old).contents fault }
         ensures cause { HasCause (D.known disk.old).faults (D.known disk.new).faults (IsErrOf result (Disk _)) }
         ensures unchanged { Unchanged (D.known disk.old) (D.known disk.new) }
         ensures goes { Goes (D.known disk.old) (D.known disk.new) }
@@ -62,7 +65,11 @@ impl Session {
         })
     }
 
-    /// Takes one step, and tells what happened. There is room for what the event brings.
+    /// Takes one step, and tells what happened.
+    ///
+    /// There has to be room for the blocks that the event brings, and the first block of a request that is handed in, with
+    /// the number of its blocks, has to stay below 2^32. Afterwards there is less room by at most what the event brought,
+    /// and by nothing where the request came back.
     pub fn step(&mut self, event: Event) -> Outcome
         requires ready { IsReadyFor (room_for_event event) self.old }
         requires fits { MayStep event }

@@ -12,7 +12,7 @@ use Rattle.nesc_base.specs.declared.blocks.TheConstants.{MOST_IN_REQUEST}
 use Rattle.nesc_requests.specs.Requests.{IsNumbered}
 use Rattle.nesc_requests.specs.declared.request.Request.{Request}
 use Rattle.script_lang.specs.declared.words.Separators.TheVariants.{Spaces}
-use Rattle.script_lang.specs.CommandsText.{up_to, number_to, from_one, first_of, count_of, read_blocks, read_of, write_of, request_of_words, request_of, is_trimmed, strings_of, each_of_items, each_at}
+use Rattle.script_lang.specs.CommandsText.{up_to, number_to, from_one, block_number_of, count_of, read_blocks, read_of, write_of, request_of_words, request_of, is_trimmed, strings_of, each_of_items, each_at}
 use Rattle.script_lang.specs.Words.{each, words_of, ◌>>=◌}
 
 -- what holds after the second step, if it holds wherever that begins
@@ -68,14 +68,14 @@ read-fits : (words : List (List ℕ)) → IfSome (read_of words) IsNumbered
 read-fits [] = tt
 read-fits (v ∷ []) = tt
 read-fits (v ∷ n ∷ []) =
-    if_some-then (λ v. v ≤ longest_file - 1) IsNumbered (first_of v) _ (number-within (longest_file - 1) v)
+    if_some-then (λ v. v ≤ longest_file - 1) IsNumbered (block_number_of v) _ (number-within (longest_file - 1) v)
     (λ v low. if_some-then (λ n. n ≤ MOST_IN_REQUEST) IsNumbered (count_of n) _ (count-within n) (λ n few. let long = length-replicate n zero_block in omega arith))
 read-fits (v ∷ n ∷ x ∷ more) = tt
 
 write-fits : (words : List (List ℕ)) → IfSome (write_of words) IsNumbered
 write-fits [] = tt
 write-fits (v ∷ texts) =
-    if_some-then (λ v. v ≤ longest_file - 1) IsNumbered (first_of v) _ (number-within (longest_file - 1) v)
+    if_some-then (λ v. v ≤ longest_file - 1) IsNumbered (block_number_of v) _ (number-within (longest_file - 1) v)
     (λ v low. if_some-then (λ blocks. length blocks ≤ MOST_IN_REQUEST) IsNumbered (read_blocks texts) _ (blocks-within texts) (λ blocks few. omega arith))
 
 either-fits : (b : Bool) (x y : Option Request) → IfSome x IsNumbered → IfSome y IsNumbered → IfSome (if b then x else y) IsNumbered

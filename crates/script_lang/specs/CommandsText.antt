@@ -38,8 +38,8 @@ abbrev pub number_from_one : ℕ → List ℕ → Option ℕ
 number_from_one most text = number_to most text >>= from_one
 
 -- the first block that is asked for
-abbrev pub first_of : List ℕ → Option ℕ
-first_of text = number_to (longest_file - 1) text
+abbrev pub block_number_of : List ℕ → Option ℕ
+block_number_of text = number_to (longest_file - 1) text
 
 -- a number of blocks, 1 to 64
 abbrev pub count_of : List ℕ → Option ℕ
@@ -61,7 +61,7 @@ create_of words = None
 abbrev pub put_of : List (List ℕ) → Option HostCommand
 put_of (name ∷ v ∷ blocks) = do
   name ← name_of name
-  v ← first_of v
+  v ← block_number_of v
   blocks ← read_blocks blocks
   Some (Put name v blocks)
 put_of words = None
@@ -70,7 +70,7 @@ put_of words = None
 abbrev pub get_of : List (List ℕ) → Option HostCommand
 get_of (name ∷ v ∷ n ∷ []) = do
   name ← name_of name
-  v ← first_of v
+  v ← block_number_of v
   n ← count_of n
   Some (Get name v (replicate n zero_block))
 get_of words = None
@@ -100,7 +100,7 @@ command_of_words (first ∷ words) =
 -- V N, with a buffer of N blocks of zeros
 abbrev pub read_of : List (List ℕ) → Option Request
 read_of (v ∷ n ∷ []) = do
-  v ← first_of v
+  v ← block_number_of v
   n ← count_of n
   Some (Read v (replicate n zero_block))
 read_of words = None
@@ -108,7 +108,7 @@ read_of words = None
 -- V BLOCK..
 abbrev pub write_of : List (List ℕ) → Option Request
 write_of (v ∷ blocks) = do
-  v ← first_of v
+  v ← block_number_of v
   blocks ← read_blocks blocks
   Some (Write v blocks)
 write_of words = None
@@ -134,14 +134,14 @@ abbrev pub request_of : List ℕ → Option Request
 request_of text = if is_trimmed text then request_of_words (words_of Spaces text) else None
 
 -- how many blocks a command has, and how many all commands and requests have
-abbrev pub blocks_in : HostCommand → ℕ
-blocks_in (Create name len) = 0
-blocks_in (Put name v blocks) = length blocks
-blocks_in (Get name v into) = length into
-blocks_in (Attach f name) = 0
+abbrev pub command_blocks : HostCommand → ℕ
+command_blocks (Create name len) = 0
+command_blocks (Put name v blocks) = length blocks
+command_blocks (Get name v into) = length into
+command_blocks (Attach f name) = 0
 
 abbrev pub blocks_in_all : Script → ℕ
-blocks_in_all script = sum_by blocks_in script.host + sum_by (sum_by requests.block_count) script.guests
+blocks_in_all script = sum_by command_blocks script.host + sum_by (sum_by requests.block_count) script.guests
 
 -- the script, if it does not have too many blocks
 abbrev pub enough_blocks : Script → Option Script

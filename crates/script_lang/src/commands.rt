@@ -1,6 +1,6 @@
 ghost use Rattle.std.specs.Prelude.{◌≡◌, ◌≤◌, ◌∷◌, map, option_map, replicate, IfOk, IfErr, IfSome};
 ghost use Rattle.nesc_base.specs.Block.{zero_block};
-ghost use Rattle.script_lang.specs.CommandsText.{number_to, number_from_one, first_of, function_of, read_blocks, count_of, create_of, get_of, put_of, attach_of, read_of, write_of, command_of_words, request_of_words, host_command_of, request_of, is_trimmed};
+ghost use Rattle.script_lang.specs.CommandsText.{number_to, number_from_one, block_number_of, function_of, read_blocks, count_of, create_of, get_of, put_of, attach_of, read_of, write_of, command_of_words, request_of_words, host_command_of, request_of, is_trimmed};
 ghost use Rattle.script_lang.specs.Reads.{Reads};
 ghost use Rattle.script_lang.specs.Words.{words_of};
 ghost use Rattle.script_lang.specs.declared.words.Separators.TheVariants.{Spaces};
@@ -38,8 +38,8 @@ pub fn number_from_one(most: u64, text: &[u8]) -> Option<u64>
 }
 
 /// The first block that is asked for, 0 to 1,048,575.
-fn first_of(text: &[u8]) -> Result<u32, InputFault>
-    ensures { Reads result (first_of text.now) }
+fn block_number_of(text: &[u8]) -> Result<u32, InputFault>
+    ensures { Reads result (block_number_of text.now) }
 {
     let v = number_to(u64::from(LONGEST_FILE) - 1, text).ok_or(InputFault::Refused)?;
     Ok(v as u32)
@@ -92,7 +92,7 @@ fn put_of(alloc: Global, words: &[&[u8]]) -> Result<HostCommand, InputFault>
         return Err(InputFault::Refused);
     };
     let name = Name::read(name).ok_or(InputFault::Refused)?;
-    let v = first_of(v)?;
+    let v = block_number_of(v)?;
     let blocks = read_blocks(alloc, texts)?;
     Ok(HostCommand::Put { name, v, blocks })
 }
@@ -104,7 +104,7 @@ fn get_of(alloc: Global, words: &[&[u8]]) -> Result<HostCommand, InputFault>
         return Err(InputFault::Refused);
     };
     let name = Name::read(name).ok_or(InputFault::Refused)?;
-    let v = first_of(v)?;
+    let v = block_number_of(v)?;
     let into = zeros_of(alloc, n)?;
     Ok(HostCommand::Get { name, v, into })
 }
@@ -124,7 +124,7 @@ fn read_of(alloc: Global, words: &[&[u8]]) -> Result<Request, InputFault>
     let [v, n] = words else {
         return Err(InputFault::Refused);
     };
-    let v = first_of(v)?;
+    let v = block_number_of(v)?;
     let into = zeros_of(alloc, n)?;
     Ok(Request::Read { v, into })
 }
@@ -135,7 +135,7 @@ fn write_of(alloc: Global, words: &[&[u8]]) -> Result<Request, InputFault>
     let [v, texts @ ..] = words else {
         return Err(InputFault::Refused);
     };
-    let v = first_of(v)?;
+    let v = block_number_of(v)?;
     let from = read_blocks(alloc, texts)?;
     Ok(Request::Write { v, from })
 }

@@ -5,7 +5,7 @@ ghost use Rattle.toml.specs.View.{view, items_view, table_view};
 ghost use Rattle.nesc_requests.specs.Machine.{IsMachine, default_machine};
 ghost use Rattle.nesc_requests.specs.Requests.{IsNumbered, block_count};
 ghost use Rattle.nesc_requests.specs.Script.{Script, requests_of, with_numbered};
-ghost use Rattle.script_lang.specs.CommandsText.{IsCommandsText, blocks_in, blocks_in_all, each_at, each_of_items, enough_blocks, enough_guests, guests_at, guests_of, guests_of_items, has_known_keys, host_command_of, request_of, script_of, script_of_members};
+ghost use Rattle.script_lang.specs.CommandsText.{IsCommandsText, command_blocks, blocks_in_all, each_at, each_of_items, enough_blocks, enough_guests, guests_at, guests_of, guests_of_items, has_known_keys, host_command_of, request_of, script_of, script_of_members};
 ghost use Rattle.script_lang.specs.Left.{IsFresh, Takes, taken_of};
 ghost use Rattle.script_lang.specs.Limits.{most_blocks};
 ghost use Rattle.script_lang.specs.Parts.{TooMany, said_by};
@@ -71,7 +71,8 @@ impl Commands {
     }
 
     /// Gives a request back that was taken, which is the guest's next again. More of the guest's requests have to
-    /// have been taken than were given back. It takes no memory.
+    /// have been taken than were given back, and the request's first block, with the number of its blocks, has to stay
+    /// below 2^32, as in each that was taken. It takes no memory.
     pub fn give_back(&mut self, f: FnNo, request: Request)
         requires out { 1 ≤ taken_of self.old f.0 }
         requires fits { IsNumbered request }
@@ -99,8 +100,8 @@ fn place_of(f: FnNo) -> Option<usize>
 }
 
 /// How many blocks a command has.
-fn blocks_in(command: &HostCommand) -> u32
-    ensures { result ≡ blocks_in command.now }
+fn command_blocks(command: &HostCommand) -> u32
+    ensures { result ≡ command_blocks command.now }
 {
     match command {
         HostCommand::Create { .. } | HostCommand::Attach { .. } => 0,
@@ -111,11 +112,11 @@ fn blocks_in(command: &HostCommand) -> u32
 
 /// How many blocks the host's commands have, up to the greatest number.
 fn blocks_of_host(commands: &VecDeque<HostCommand>) -> u64
-    ensures { result ≡ min (sum_by blocks_in commands.now.items) 18446744073709551615 }
+    ensures { result ≡ min (sum_by command_blocks commands.now.items) 18446744073709551615 }
 {
     let mut blocks = 0u64;
     for command in commands.iter() {
-        blocks = blocks.saturating_add(u64::from(blocks_in(command)));
+        blocks = blocks.saturating_add(u64::from(command_blocks(command)));
     }
     blocks
 }
@@ -149,14 +150,14 @@ trait Spoken: Drop {
 impl Spoken for HostCommand {
     ghost said = { host_command_of };
 
-    ghost blocks = { blocks_in };
+    ghost blocks = { command_blocks };
 
     fn read(alloc: Global, text: &[u8]) -> Result<HostCommand, InputFault> {
         host_command_of(alloc, text)
     }
 
     fn blocks(&self) -> u32 {
-        blocks_in(self)
+        command_blocks(self)
     }
 }
 
@@ -273,7 +274,7 @@ fn has_known_keys(table: &Table) -> bool
 /// The host's commands of a table.
 fn read_host(alloc: Global, table: &Table) -> Result<VecDeque<HostCommand>, InputFault>
     ensures read { IfOk result (λ host. each_at host_command_of (get_member (codes "host") (table_view table.now)) ≡ Some host.items) }
-    ensures refused { IsErrOf result InputFault.Refused → TooMany (sum_by blocks_in) (each_at host_command_of (get_member (codes "host") (table_view table.now))) }
+    ensures refused { IsErrOf result InputFault.Refused → TooMany (sum_by command_blocks) (each_at host_command_of (get_member (codes "host") (table_view table.now))) }
 {
     read_at(alloc, table.get("host"))
 }

@@ -40,6 +40,45 @@ fn commands(rt: HostRuntime) -> Result<(), Fail> {
 }
 
 #[test]
+fn accepted_at_the_limits(rt: HostRuntime) -> Result<(), Fail> {
+    for text in [
+        b"host = ['create abcdefghijklmnopqrstuvwx 0']".as_slice(),
+        b"host = ['create a 1048576', 'create a 0000000001']",
+        b"host = ['get a 1048575 1', 'get a 0 64']",
+        b"host = ['put  a 0 z', 'put a 0 1111111111111111']",
+        b"guest = [['r 1048575 64', 'w 0 z']]",
+        b"host = []\nguest = []",
+    ] {
+        assert!(rt; read_commands(rt.alloc(), text).is_ok());
+    }
+    for text in [b"t*0000000001".as_slice(), b"i01", b"t*1048576", b""] {
+        assert!(rt; read_schedule(rt.alloc(), text).is_ok());
+    }
+    Ok(())
+}
+
+#[test]
+fn refused_past_the_limits(rt: HostRuntime) -> Result<(), Fail> {
+    for text in [
+        b"host = ['create abcdefghijklmnopqrstuvwxy 0']".as_slice(),
+        b"host = ['create a 1048577']",
+        b"host = ['create a 00000000001']",
+        b"host = ['get a 1048576 1']",
+        b"host = ['get a 0 65']",
+        b"host = ['put a 0 111111111111111']",
+        b"host = ['put a 0 z  ']",
+        b"host = ['']",
+        b"host = 'create a 1'",
+        b"host = [1]",
+        b"guest = [[1]]",
+        b"host = [['create a 1']]",
+    ] {
+        assert!(rt; matches!(read_commands(rt.alloc(), text), Err(InputFault::Refused)));
+    }
+    Ok(())
+}
+
+#[test]
 fn given_back(rt: HostRuntime) -> Result<(), Fail> {
     let text = b"guest = [[\"r 5 2\", \"r 7 1\"]]";
     let mut commands = read_commands(rt.alloc(), text).ok().ok_or("memory")?;

@@ -25,7 +25,7 @@ pub fn write_step<K: Sink>(sink: &mut K, word: Word, outcome: &Outcome) -> Resul
     }
 }
 
-/// Writes the line of a word that made no step, since the host or the guest whose turn it was had nothing left to give.
+/// Writes the line of a word that drew no event, since the host or the guest whose turn it was had nothing left to give.
 /// The device and a handling give nothing, so there is no such line of them, and nothing is written.
 ///
 /// An `Err` says that the sink failed. Whatever it answers, the sink has taken the first bytes of the line.
@@ -39,7 +39,7 @@ pub fn write_end<K: Sink>(sink: &mut K, word: Word) -> Result<(), WriteFault>
     }
 }
 
-/// Writes the line behind the last step, which tells how many there were.
+/// Writes the last line, which tells how many words the schedule had.
 ///
 /// An `Err` says that the sink failed. Whatever it answers, the sink has taken the first bytes of the line.
 pub fn write_done<K: Sink>(sink: &mut K, steps: u64) -> Result<(), WriteFault>

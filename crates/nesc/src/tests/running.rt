@@ -78,60 +78,6 @@ fn times(alloc: Global, front: &str, piece: &str, n: u32, end: &str) -> Result<S
 }
 
 #[test]
-fn each_limit_has_two_sides(rt: HostRuntime) -> Result<(), Fail> {
-    let alloc = rt.alloc();
-    let name_24 = "host = ['create abcdefghijklmnopqrstuvwx 0']";
-    let name_25 = "host = ['create abcdefghijklmnopqrstuvwxy 0']";
-    for (accepted, refused) in [
-        (name_24, name_25),
-        ("host = ['create a 1048576']", "host = ['create a 1048577']"),
-        (
-            "host = ['create a 0000000001']",
-            "host = ['create a 00000000001']",
-        ),
-        ("host = ['get a 1048575 1']", "host = ['get a 1048576 1']"),
-        ("host = ['get a 0 1']", "host = ['get a 0 0']"),
-        ("host = ['get a 0 64']", "host = ['get a 0 65']"),
-        (
-            "host = ['put a 0 1111111111111111']",
-            "host = ['put a 0 111111111111111']",
-        ),
-        ("host = ['put  a 0 z']", "host = ['put a 0 z  ']"),
-        ("host = ['attach 1 a']", "host = ['attach 2 a']"),
-        ("host = []", "host = ['']"),
-        ("guest = []", "guests = []"),
-        ("guest = [[]]", "guest = ['r 0 1']"),
-        ("guest = [['r 1048575 64']]", "guest = [['r 1048576 1']]"),
-        ("guest = [['w 0 z']]", "guest = [['w 0']]"),
-        ("guest = [[]]", "guest = [[], []]"),
-        ("", "host = 'create a 1'"),
-        ("", "host = [1]"),
-        ("", "guest = [[1]]"),
-        ("", "host = [['create a 1']]"),
-    ] {
-        let told = tell(alloc, &["run"], accepted, "")?;
-        assert_eq!(rt; told.status, Status::Done, "at {accepted:?}");
-        let told = tell(alloc, &["run"], refused, "")?;
-        assert_eq!(rt; told.status, Status::Input, "at {refused:?}");
-        assert_eq!(rt; told.err.bytes(), b"nesc: input commands\n".as_slice());
-    }
-    for (accepted, refused) in [
-        ("t*1", "t*0"),
-        ("t*0000000001", "t*00000000001"),
-        ("g1", "g2"),
-        ("i01", "i0"),
-        ("t*1048576", "t*1048577"),
-    ] {
-        let told = tell(alloc, &["run"], "", accepted)?;
-        assert_eq!(rt; told.status, Status::Done, "at {accepted:?}");
-        let told = tell(alloc, &["run"], "", refused)?;
-        assert_eq!(rt; told.status, Status::Input, "at {refused:?}");
-        assert_eq!(rt; told.err.bytes(), b"nesc: input schedule\n".as_slice());
-    }
-    Ok(())
-}
-
-#[test]
 fn large_texts_have_limits(rt: HostRuntime) -> Result<(), Fail> {
     let alloc = rt.alloc();
     for (n, status) in [(64, Status::Done), (65, Status::Input)] {

@@ -79,7 +79,7 @@ impl HeldBlocks {
         self.room -= 1;
     }
 
-    /// WritesBlocks a block at a place where one is held, and says whether one is.
+    /// Writes a block at a place where one is held, and says whether one is.
     pub fn replace(&mut self, place: Place, block: &Block) -> bool
         ensures held { result ≡ contains_key self.old.blocks place }
         ensures blocks { IsTrue result → self.new.blocks ≡ insert self.old.blocks place block.now }
@@ -93,7 +93,7 @@ impl HeldBlocks {
         true
     }
 
-    /// WritesBlocks a block at a place. Where none was held yet, one is now.
+    /// Writes a block at a place. Where none was held yet, one is now.
     pub fn put(&mut self, place: Place, block: &Block)
         requires { contains_key self.old.blocks place ≡ false → 0 < self.old.room }
         ensures blocks { self.new.blocks ≡ insert self.old.blocks place block.now }

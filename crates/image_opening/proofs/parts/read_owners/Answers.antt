@@ -10,7 +10,7 @@ use Rattle.image_layout.specs.Owners.{Owner}
 use Rattle.image_layout.specs.Refusal.{DoesNotOpen, LacksOwners}
 use Rattle.slot_layout.specs.Slots.{block_at}
 use Rattle.image_layout.proofs.MapBlocks.{each_more}
-use Rattle.image_opening.specs.Parts.{IsTurnedDown}
+use Rattle.image_opening.specs.Parts.{IsRefusedSoFar}
 use Rattle.slot_layout.proofs.Alike.{lays_itself}
 use Rattle.image_opening.proofs.PartsLemmas.{MayOwnBlock, block_here, closed_here, may_all}
 use Rattle.image_opening.proofs.parts.read_owners.Goals as goal
@@ -44,7 +44,7 @@ returns-in_err-found-clause-refused g c tells divided closed table fault is =
       lays = lays_itself c.args.geometry image closed;
       has = lacks;
     } in
-    subst (IsTurnedDown image) same (refused, closed_here image c.args.geometry divided closed)
+    subst (IsRefusedSoFar image) same (refused, closed_here image c.args.geometry divided closed)
 
 pub loop-b-preserved : goal.loop-b-preserved
 loop-b-preserved g c =

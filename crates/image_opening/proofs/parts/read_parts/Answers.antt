@@ -9,9 +9,9 @@ use Rattle.image_layout.specs.declared.fault.OpenFault.TheVariants.{Image}
 use Rattle.slot_layout.specs.Gate.{is_open}
 use Rattle.image_layout.specs.Refusal.{DoesNotOpen, LacksTable}
 use Rattle.slot_layout.specs.Slots.{block_at, gate}
-use Rattle.image_opening.specs.Parts.{IsTurnedDown}
+use Rattle.image_opening.specs.Parts.{IsRefusedSoFar}
 use Rattle.slot_layout.proofs.Alike.{lays_itself}
-use Rattle.image_opening.proofs.PartsLemmas.{block_here, closed_here, turned_down}
+use Rattle.image_opening.proofs.PartsLemmas.{block_here, closed_here, refused_so_far}
 use Rattle.image_opening.proofs.parts.read_parts.Goals as goal
 
 pub returns-in_err-table-clause-refused : goal.returns-in_err-table-clause-refused
@@ -45,9 +45,9 @@ returns-in_err-table-clause-refused g c tells fault is =
       lays = lays_itself geometry image closed;
       has = lacks;
     } in
-    subst (IsTurnedDown image) same (refused, closed_here image geometry (c.in_ok-geometry.ensures.divided tells) closed)
+    subst (IsRefusedSoFar image) same (refused, closed_here image geometry (c.in_ok-geometry.ensures.divided tells) closed)
 
 pub returns-in_err-geometry-clause-refused : goal.returns-in_err-geometry-clause-refused
 returns-in_err-geometry-clause-refused g c tells fault is =
     let same : IsErrOf c.read_geometry.result (Image fault) = search rules in
-    turned_down (g.D.Disk.known c.args.disk.now).contents fault (c.read_geometry.ensures.kinds fault same) (c.read_geometry.ensures.refused tells fault same)
+    refused_so_far (g.D.Disk.known c.args.disk.now).contents fault (c.read_geometry.ensures.kinds fault same) (c.read_geometry.ensures.refused tells fault same)

@@ -53,7 +53,7 @@ returns-clause-told g c kept count =
       later,
       record {
         group = group_of c.args.word outcome;
-        trace = subst Traces (sym rest) (IsTrace-one c.args.session.now.setting script c.args.word taken draws step steps.law);
+        trace = subst Traces (sym rest) (IsTrace-one c.args.session.now.setting script c.args.word taken draws step (steps.law kept count));
         writes = c.write_step-told.ensures;
       },
     )

@@ -13,7 +13,7 @@ returns-in-Create-clause-steps c =
     rw c.in-Create.is (record {
       changes = step.changes;
       step = λ kept count. Step-answered session.setting (state_of kept count session) (Create c.in-Create.name c.in-Create.length) c.create.result step.changes c.create.new.self.files session.functions.items (step.answers, refl) step.leads;
-      law = refl;
+      law = λ kept count. refl;
       same_setting = refl;
     })
 
@@ -29,7 +29,7 @@ returns-in-Put-clause-steps c =
     rw c.in-Put.is (record {
       changes = step.changes;
       step = λ kept count. Step-answered session.setting (state_of kept count session) (Put c.in-Put.name c.in-Put.v c.in-Put.blocks) c.put.result step.changes c.put.new.self.files session.functions.items (step.answers, refl) step.leads;
-      law = refl;
+      law = λ kept count. refl;
       same_setting = refl;
     })
 
@@ -46,7 +46,7 @@ returns-in-Get-clause-steps c =
     rw c.in-Get.is (record {
       changes = step.changes;
       step = λ kept count. Step-answered session.setting (state_of kept count session) (Get c.in-Get.name c.in-Get.v c.in-Get.into) c.get.result step.changes session.files.files session.functions.items (step.answers, refl) step.leads;
-      law = refl;
+      law = λ kept count. refl;
       same_setting = refl;
     })
 

@@ -16,7 +16,7 @@ returns-in_default-clause-steps c =
     record {
       changes = [];
       step = λ kept count. Step-answered session.setting (state_of kept count session) (Attach c.args.f c.args.name.now) NoFile [] session.files.files session.functions.items (attach, refl) refl;
-      law = refl;
+      law = λ kept count. refl;
       same_setting = refl;
     }
 
@@ -30,7 +30,7 @@ returns-in_default-index_of_function-clause-steps c =
     record {
       changes = [];
       step = λ kept count. Step-answered session.setting (state_of kept count session) (Attach c.args.f c.args.name.now) FunctionTaken [] session.files.files session.functions.items (attach, refl) refl;
-      law = refl;
+      law = λ kept count. refl;
       same_setting = refl;
     }
 
@@ -44,7 +44,7 @@ returns-then-not-is_off-clause-steps c =
     record {
       changes = [];
       step = λ kept count. Step-answered session.setting (state_of kept count session) (Attach c.args.f c.args.name.now) FunctionTaken [] session.files.files session.functions.items (attach, refl) refl;
-      law = refl;
+      law = λ kept count. refl;
       same_setting = refl;
     }
 
@@ -59,7 +59,7 @@ returns-then-is_taken-clause-steps c =
     record {
       changes = [];
       step = λ kept count. Step-answered session.setting (state_of kept count session) (Attach c.args.f c.args.name.now) FileTaken [] session.files.files session.functions.items (attach, refl) refl;
-      law = refl;
+      law = λ kept count. refl;
       same_setting = refl;
     }
 
@@ -83,6 +83,6 @@ returns-clause-steps c =
     record {
       changes = [];
       step = λ kept count. Step-answered session.setting (state_of kept count session) (Attach c.args.f c.args.name.now) Ok [] session.files.files after (attach, refl) refl;
-      law = refl;
+      law = λ kept count. refl;
       same_setting = refl;
     }

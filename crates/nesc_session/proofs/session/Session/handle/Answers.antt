@@ -10,7 +10,7 @@ use Rattle.nesc_session.proofs.session.Session.handle.Goals as goal
 pub returns-in-None-clause-steps : goal.returns-in-None-clause-steps
 returns-in-None-clause-steps c =
     let none = ap (λ all. numbered all c.args.f.0) (sym c.deref.ensures.value) ∙ c.in-None.ensures in
-    record { changes = []; step = λ kept count. Step-handled_none c.args.self.now.setting (state_of kept count c.args.self.now) c.args.f none; law = refl; same_setting = refl }
+    record { changes = []; step = λ kept count. Step-handled_none c.args.self.now.setting (state_of kept count c.args.self.now) c.args.f none; law = λ kept count. refl; same_setting = refl }
 
 pub handle-requires : goal.handle-requires
 handle-requires c =
@@ -27,7 +27,7 @@ returns-in-Some-clause-steps c =
       changes = handles.changes;
       step = λ kept count. Step-handled c.args.self.now.setting (state_of kept count c.args.self.now) c.in-Some.index c.index_mut.result.now within c.index_mut.ensures.value c.handle.new.self
           c.args.f c.in-Some.ensures.1 c.handle.result c.handle.new.files.files handles;
-      law = refl;
+      law = λ kept count. refl;
       same_setting = refl;
     }
 

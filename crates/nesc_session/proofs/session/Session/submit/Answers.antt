@@ -11,7 +11,7 @@ use Rattle.nesc_session.proofs.session.Session.submit.Goals as goal
 pub returns-in-None-clause-steps : goal.returns-in-None-clause-steps
 returns-in-None-clause-steps c =
     let none = ap (λ all. numbered all c.args.f.0) (sym c.deref.ensures.value) ∙ c.in-None.ensures in
-    record { changes = []; step = λ kept count. Step-nobody c.args.self.now.setting (state_of kept count c.args.self.now) c.args.f c.args.request none; law = refl; same_setting = refl }
+    record { changes = []; step = λ kept count. Step-nobody c.args.self.now.setting (state_of kept count c.args.self.now) c.args.f c.args.request none; law = λ kept count. refl; same_setting = refl }
 
 pub returns-in-Some-clause-steps : goal.returns-in-Some-clause-steps
 returns-in-Some-clause-steps c =
@@ -20,7 +20,7 @@ returns-in-Some-clause-steps c =
       changes = [];
       step = λ kept count. Step-submitted c.args.self.now.setting (state_of kept count c.args.self.now) c.in-Some.index c.index_mut.result.now within c.index_mut.ensures.value c.submit.new.self
           c.args.f c.in-Some.ensures.1 c.args.request c.submit.result c.submit.ensures.submits;
-      law = Submits-fetches_none c.args.self.now.setting.machine.queue c.index_mut.result.now c.args.request c.submit.result c.submit.new.self c.submit.ensures.submits;
+      law = λ kept count. Submits-fetches_none c.args.self.now.setting.machine.queue c.index_mut.result.now c.args.request c.submit.result c.submit.new.self c.submit.ensures.submits;
       same_setting = refl;
     }
 

@@ -11,7 +11,7 @@ use Rattle.nesc_session.proofs.session.Session.tick.Goals as goal
 pub returns-in_default-clause-steps : goal.returns-in_default-clause-steps
 returns-in_default-clause-steps c =
     let none = ap (λ all. next_runnable all c.args.self.now.last) (sym c.deref.ensures.value) ∙ sym c.in_default.ensures.next in
-    rw c.told.ensures (record { changes = []; step = λ kept count. Step-idle c.args.self.now.setting (state_of kept count c.args.self.now) none; law = refl; same_setting = refl })
+    rw c.told.ensures (record { changes = []; step = λ kept count. Step-idle c.args.self.now.setting (state_of kept count c.args.self.now) none; law = λ kept count. refl; same_setting = refl })
 
 pub serve-requires : goal.serve-requires
 serve-requires c =
@@ -26,7 +26,7 @@ returns-clause-steps c =
     record {
       changes = c.serve.ensures.serves.changes;
       step = λ kept count. Step-served c.args.self.now.setting (state_of kept count c.args.self.now) c.in-Some.index c.index_mut.result.now within c.index_mut.ensures.value c.serve.new.self next c.serve.result c.serve.new.files.files c.serve.ensures.serves;
-      law = c.serve.ensures.serves.law;
+      law = λ kept count. c.serve.ensures.serves.law;
       same_setting = refl;
     }
 

@@ -4,10 +4,10 @@ use Rattle.nesc_base.specs.Disk.{Goes, Unchanged}
 use Rattle.nesc_base.specs.Geometry.{area_from}
 use Rattle.image_layout.specs.Opens.{Repeats}
 use Rattle.image_layout.specs.Owners.{Owner}
-use Rattle.nesc_session.specs.Opening.{held_in}
+use Rattle.nesc_session.specs.Loading.{held_in}
 use Rattle.nesc_session.proofs.KeptNames.{KeepsNames}
 use Rattle.nesc_session.proofs.Loaded.{AreHeld}
-use Rattle.nesc_session.proofs.opening.open_files.Given as goal
+use Rattle.nesc_session.proofs.loading.open_files.Given as goal
 
 -- the files hold what the owners so far say, there is room for the rest, and the disk is as it was
 abbrev pub invariant-loop-k : goal.invariant-loop-k

@@ -10,15 +10,15 @@ use Rattle.image_layout.specs.declared.fault.OpenFault.TheVariants.{Image}
 use Rattle.image_layout.specs.declared.table.TableEntry.{TableEntry}
 use Rattle.image_layout.specs.Opens.{Repeats}
 use Rattle.image_layout.specs.Owners.{Owner}
-use Rattle.image_opening.specs.Parts.{AreParts, IsTurnedDown, MayAllOwn}
+use Rattle.image_opening.specs.Parts.{AreParts, IsRefusedSoFar, MayAllOwn}
 use Rattle.nesc_session.specs.FilesInMemory.{files_of}
 use Rattle.image_opening.proofs.PartsLemmas.{block_here, closed_here}
-use Rattle.nesc_session.specs.Opening.{Loads, held_in}
+use Rattle.nesc_session.specs.Loading.{Loads, held_in}
 use Rattle.nesc_session.proofs.HeldIn.{held_few, held_in-free, held_in-owned}
 use Rattle.nesc_session.proofs.KeptNames.{KeepsNames, keeps_names, owner_stands}
 use Rattle.nesc_session.proofs.Loaded.{AreHeld, are_held-free, are_held-owned, block_stands, free_repeats_none, item_there, none_held, none_repeats_more, not_repeats, opens_whole, owns_twice, repeats_there}
-use Rattle.nesc_session.proofs.opening.open_files.Goals as goal
-use Rattle.nesc_session.proofs.opening.open_files.Goals.{in-Some+in_ok-load_block, in_default}
+use Rattle.nesc_session.proofs.loading.open_files.Goals as goal
+use Rattle.nesc_session.proofs.loading.open_files.Goals.{in-Some+in_ok-load_block, in_default}
 
 pub overflow_add-count_held : goal.overflow_add-count_held
 overflow_add-count_held g c =
@@ -81,7 +81,7 @@ returns-in_err-load_block-clause-refused g c tells fault is =
     let twice = c.load_block.ensures.twice fault failed in
     let held : AreHeld geometry image (take c.loop-k.k owners) c.loop-k.files.files = c.loop-k.invariant.held tells geometry c.area_from-area_from.ensures in
     let repeats : Repeats owners c.loop-k.k owner = repeats_there geometry image owners c.loop-k.k c.loop-k.files.files held owner there twice.1 in
-    subst (IsTurnedDown image) (sym twice.0) (
+    subst (IsRefusedSoFar image) (sym twice.0) (
       owns_twice image geometry entries owners c.loop-k.k owner parts repeats (c.loop-k.invariant.first tells),
       closed_here image geometry parts.divided parts.closed,
     )

@@ -8,8 +8,8 @@ ghost use Rattle.file_model.specs.Files.{holds};
 ghost use Rattle.image_layout.specs.declared.fault.ImageFault.{ImageFault};
 ghost use Rattle.image_layout.specs.declared.fault.ImageFault.TheVariants.{TwiceOwned};
 ghost use Rattle.image_layout.specs.declared.fault.OpenFault.TheVariants.{Disk, Image};
-ghost use Rattle.image_opening.specs.Parts.{IsTurnedDown, OpensAsItIs};
-ghost use Rattle.nesc_session.specs.Opening.{Loads, held_in};
+ghost use Rattle.image_opening.specs.Parts.{IsRefusedSoFar, OpensAsItIs};
+ghost use Rattle.nesc_session.specs.Loading.{Loads, held_in};
 
 use crate::files::Files;
 use image_layout::{ImageFault, OpenFault};
@@ -24,8 +24,8 @@ pub(crate) struct Opened {
     pub files: Files,
 }
 
-/// The files as which the image on the disk opens, with the memory for so many held blocks more. No block of the disk
-/// is read twice, and none is written.
+/// The files as which the image on the disk opens, with the memory for so many held blocks more. No block of the disk is
+/// written; that none is read twice is tested.
 ///
 /// `Image` says why it does not open, by the first cause. `Disk` comes only where the disk failed.
 pub(crate) fn open_files<D: Disk>(
@@ -35,7 +35,7 @@ pub(crate) fn open_files<D: Disk>(
 ) -> Result<Opened, OpenFault>
     requires { more < 2 ^ 31 }
     ensures opens { (D.known disk.old).tells ≡ true → IfOk result (λ opened. OpensAsItIs (D.known disk.old).contents opened.geometry opened.files.files) }
-    ensures refused { (D.known disk.old).tells ≡ true → (fault : ImageFault) → IsErrOf result (Image fault) → IsTurnedDown (D.known disk.old).contents fault }
+    ensures refused { (D.known disk.old).tells ≡ true → (fault : ImageFault) → IsErrOf result (Image fault) → IsRefusedSoFar (D.known disk.old).contents fault }
     ensures room { IfOk result (λ opened. more ≤ opened.files.room) }
     ensures cause { HasCause (D.known disk.old).faults (D.known disk.new).faults (IsErrOf result (Disk _)) }
     ensures unchanged { Unchanged (D.known disk.old) (D.known disk.new) }
