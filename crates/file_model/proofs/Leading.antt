@@ -1,7 +1,7 @@
 -- Changes that can be made.
 use Rattle.std.proofs.Common.{◌≡◌, ℕ, nat_lt, ltb-true, le-ltb, ◌+◌, ◌<◌, ◌≤◌, Bool, true, false, not, cond, ◌&&◌, List, [], ◌∷◌, ◌++◌, length, Option, Some, None, IsSome, IsSomeAnd, refl, sym, ap, ◌∙◌, subst, arith, filter}
 use Rattle.std.specs.FinMap.{empty, get, insert}
-use Rattle.std.specs.List.{range_with_len}
+use Rattle.std.specs.List.{AllByRecursion, range_with_len}
 use Rattle.std.specs.Option.{unwrap_or}
 use Rattle.std.proofs.lemmas.Bool.{and_parts, not-true}
 use Rattle.nesc_base.specs.Files.{File, Files, file_at}
@@ -73,10 +73,10 @@ filter_both : (p q : ℕ → Bool) (xs : List ℕ) → filter p (filter q xs) �
 filter_both p q [] = refl
 filter_both p q (x ∷ xs) = filter_one p x (q x) (filter q xs) (filter (λ x. q x && p x) xs) (filter_both p q xs)
 
--- where no test passes, nothing is left
-filter_none : (p : ℕ → Bool) (xs : List ℕ) → ((x : ℕ) → p x ≡ false) → filter p xs ≡ []
+-- where none passes, nothing is left
+pub filter_none : (p : ℕ → Bool) (xs : List ℕ) → AllByRecursion (λ x. p x ≡ false) xs → filter p xs ≡ []
 filter_none p [] fails = refl
-filter_none p (x ∷ xs) fails = ap (λ (b : Bool). cond b (x ∷ filter p xs) (filter p xs)) (fails x) ∙ filter_none p xs fails
+filter_none p (x ∷ xs) fails = ap (λ (b : Bool). cond b (x ∷ filter p xs) (filter p xs)) fails.0 ∙ filter_none p xs fails.1
 
 -- a block is wanted: it is not held, and lies below the length
 abbrev is_wanted : File → ℕ → Bool
@@ -110,7 +110,8 @@ can_hold_found : (files : Files) (n : ℕ) (found : Option File) (miss : Miss) �
     → CanLead files (holding n (wanted (unwrap_or found (record { name = []; length = 0; body = empty })) miss))
 can_hold_found files n None miss missing =
     let file : File = record { name = []; length = 0; body = empty } in
-    let none = filter_none (λ at. nat_lt at 0) (unheld file miss.v miss.n) (λ at. le-ltb at 0 (omega arith)) in
+    let past = All-filter_range (λ at. nat_lt at 0 ≡ false) (λ at. not (holds file at)) miss.v miss.n (λ at low high _. le-ltb at 0 (omega arith)) in
+    let none = filter_none (λ at. nat_lt at 0) (unheld file miss.v miss.n) past in
     subst (λ (blocks : List ℕ). CanLead files (holding n blocks)) (sym none) (files, refl)
 can_hold_found files n (Some file) miss stands = can_hold files n file miss stands
 

@@ -15,6 +15,7 @@ pub mod Leading
 pub mod Names
 pub mod OneChange
 pub mod SetsStay
+pub mod Staging
 pub mod Steps
 pub mod Submissions
 pub mod Ticks

@@ -22,11 +22,17 @@ event_of script (G f) = option_map (λ request. Submit f request) (slice_get (re
 event_of script H = option_map (λ command. Host command) (slice_get script.host 0)
 event_of script (I f) = Some (Handle f)
 
+-- the script without what the event was drawn from
+abbrev pub without_drawn : Script → Event → Script
+without_drawn script (Host command) = record script { host = drop 1 script.host }
+without_drawn script (Submit f request) = record script { guests = with_numbered script.guests f.0 (drop 1 (requests_of script f.0)) }
+without_drawn script event = script
+
 -- What is left behind an event with this answer: the host's command is gone, and so is a request that waits now. One that
 -- came back is the guest's next again.
 abbrev pub left_after : Script → Event → Answer → Script
-left_after script (Host command) answer = record script { host = drop 1 script.host }
-left_after script (Submit f request) (Queued id) = record script { guests = with_numbered script.guests f.0 (drop 1 (requests_of script f.0)) }
+left_after script (Host command) answer = without_drawn script (Host command)
+left_after script (Submit f request) (Queued id) = without_drawn script (Submit f request)
 left_after script event answer = script
 
 abbrev pub left_behind : Script → Option StepTaken → Script

@@ -1,5 +1,5 @@
 -- Laws of the definitions.
-use Rattle.std.specs.Prelude.{◌≡◌, List}
+use Rattle.std.specs.Prelude.{◌≡◌, ◌+◌, List}
 use Rattle.nesc_requests.specs.declared.event.Event.{Event}
 use Rattle.nesc_requests.specs.declared.event.Event.TheVariants.{Host}
 use Rattle.nesc_requests.specs.declared.word.Word.{Word}
@@ -10,6 +10,7 @@ use Rattle.file_model.specs.Given.{AreGivenAlike}
 use Rattle.file_model.specs.Groups.{Group}
 use Rattle.file_model.specs.Machine.{Step}
 use Rattle.file_model.specs.Misses.{MissLaw}
+use Rattle.file_model.specs.Staging.{blocks_staged}
 use Rattle.file_model.specs.State.{State}
 use Rattle.file_model.specs.Traces.{IsTrace}
 use Rattle.file_model.specs.declared.outcome.Outcome.{Outcome}
@@ -29,6 +30,12 @@ abbrev pub KeepsSets : Event → Type 0
 KeepsSets event =
     MayCome event → (setting : Setting) (old : State) (changes : List Change) (outcome : Outcome) (new : State) → IsFileSet old.now
     → Step setting old event changes outcome new → IsFileSet new.now
+
+-- in whatever state, an event adds to the count the blocks that its answer says were staged, each of them once
+abbrev pub CountsStaged : Event → Type 0
+CountsStaged event =
+    (setting : Setting) (old : State) (changes : List Change) (outcome : Outcome) (new : State)
+    → Step setting old event changes outcome new → new.count ≡ old.count + blocks_staged old event outcome.answer
 
 -- In whatever state, an event makes one list of changes, comes to one outcome and leaves one state, where what is given to
 -- the machine is the same: the definition leaves no other choice.

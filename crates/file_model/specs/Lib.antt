@@ -12,6 +12,7 @@ pub mod Machine
 pub mod Misses
 pub mod PlainFile
 pub mod PlainFiles
+pub mod Staging
 pub mod State
 pub mod Submissions
 pub mod Ticks

@@ -2,7 +2,7 @@ ghost use Rattle.std.specs.FinMap.{empty};
 ghost use Rattle.nesc_requests.specs.declared.event.Event.{Event};
 ghost use Rattle.nesc_base.specs.Files.{IsFileSet};
 ghost use Rattle.file_model.specs.Files.{Change};
-ghost use Rattle.file_model.specs.Laws.{HasOneStep, HasStep, IsNeverStuck, KeepsFileSets, KeepsSets};
+ghost use Rattle.file_model.specs.Laws.{CountsStaged, HasOneStep, HasStep, IsNeverStuck, KeepsFileSets, KeepsSets};
 ghost use Rattle.file_model.specs.State.{State};
 ghost use Rattle.file_model.specs.declared.setting.Setting.{Setting};
 
@@ -15,6 +15,12 @@ pub fn file_sets_stay()
 /// So does each step, whatever event comes, where what the host asks for is within the limits.
 pub fn file_sets_stay_in_steps()
     ensures { (event : Event) → KeepsSets event }
+{}
+
+/// Each step adds to the count of staged blocks what its answer says was done: all blocks of a `put` that is done, one block
+/// that is served for a write, as many as a handling held, and else none.
+pub fn staged_blocks_are_counted()
+    ensures { (event : Event) → CountsStaged event }
 {}
 
 /// Over files as they may be the definition leaves no choice but how many nodes are fetched: each event makes one list of

@@ -10,6 +10,7 @@ mod setting;
 
 pub use laws::{
     every_event_has_a_step, every_run_goes_on, file_sets_stay, file_sets_stay_in_steps, one_step,
+    staged_blocks_are_counted,
 };
 pub use outcome::{Answer, Handled, How, Outcome};
 pub use plain_file::PlainFile;

@@ -31,6 +31,6 @@ pub sizes-superblock : (block : Block) (geometry found : Geometry) → IsSuperbl
 sizes-superblock block geometry found is version blocks slack =
     let sizes : IsGeometry geometry = is.sizes in
     let version_is : found.version ≡ geometry.version = version ∙ ap (λ (b : Block). little_number 4 (drop 8 b.0)) is.spelling ∙ version-superblock geometry (omega (arith, sizes.version)) in
-    let blocks_are : found.blocks ≡ geometry.blocks = blocks ∙ ap (λ (b : Block). little_number 4 (drop 12 b.0)) is.spelling ∙ blocks-superblock geometry (omega (arith, sizes.most_blocks)) in
-    let slack_is : found.slack ≡ geometry.slack = slack ∙ ap (λ (b : Block). little_number 4 (drop 16 b.0)) is.spelling ∙ slack-superblock geometry (omega (arith, sizes.most_slack)) in
+    let blocks_are : found.blocks ≡ geometry.blocks = blocks ∙ ap (λ (b : Block). little_number 4 (drop 12 b.0)) is.spelling ∙ blocks-superblock geometry (omega (arith, sizes.few_blocks)) in
+    let slack_is : found.slack ≡ geometry.slack = slack ∙ ap (λ (b : Block). little_number 4 (drop 16 b.0)) is.spelling ∙ slack-superblock geometry (omega (arith, sizes.little_slack)) in
     same_sizes found geometry version_is blocks_are slack_is

@@ -4,7 +4,7 @@ use Rattle.std.specs.FinMap.{get}
 use Rattle.nesc_base.specs.declared.block.Block.{Block}
 use Rattle.nesc_base.specs.declared.geometry.Geometry.{Geometry}
 use Rattle.nesc_base.specs.Files.{File, Files}
-use Rattle.nesc_base.specs.Geometry.{area_from, map_at, map_blocks, table_at, total}
+use Rattle.nesc_base.specs.Geometry.{area_from, block_owners, map_at, map_blocks, table_at, total}
 use Rattle.nesc_base.specs.Places.{Owns, Places}
 use Rattle.image_layout.specs.declared.table.TableEntry.{TableEntry}
 use Rattle.image_layout.specs.Owners.{AreOwners, Owner}
@@ -24,17 +24,17 @@ lengths_of entries = map (option_map (λ entry. entry.length)) entries
 
 -- how many of the entries of map block b stand for data blocks
 abbrev pub entries_in : Geometry → ℕ → ℕ
-entries_in geometry b = geometry.blocks - 128 * b
+entries_in geometry b = geometry.blocks - block_owners * b
 
--- map block b says who owns the data blocks from 128 * b on
+-- map block b says who owns the data blocks from block_owners * b on
 abbrev pub IsMapBlock : Geometry → List Block → List (Option TableEntry) → ℕ → List (Option Owner) → Type 0
 IsMapBlock geometry laid entries b owners =
     AreOwners (lengths_of entries) (entries_in geometry b) (block_at laid (map_at geometry + b)) owners
 
 -- the owners of all data blocks, in their order
 pub record IsMap (geometry : Geometry) (laid : List Block) (entries : List (Option TableEntry)) (owners : List (Option Owner)) : Type 0 where
-  pub count : length owners ≡ 128 * map_blocks geometry
-  pub each : (b : ℕ) → b < map_blocks geometry → IsMapBlock geometry laid entries b (take 128 (drop (128 * b) owners))
+  pub count : length owners ≡ block_owners * map_blocks geometry
+  pub each : (b : ℕ) → b < map_blocks geometry → IsMapBlock geometry laid entries b (take block_owners (drop (block_owners * b) owners))
 
 -- data block k repeats an earlier one
 abbrev pub Repeats : List (Option Owner) → ℕ → Owner → Type 0

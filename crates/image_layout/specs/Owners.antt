@@ -1,7 +1,8 @@
--- A block of the map of owners: one entry of 8 bytes for each of 128 data blocks.
+-- A block of the map of owners: one entry of 8 bytes for each of its data blocks.
 use Rattle.std.specs.Prelude.{◌≡◌, ◌≢◌, ℕ, ◌-◌, ◌^◌, ◌<◌, List, ◌∷◌, ◌++◌, length, replicate, Option, Some, None, slice_get}
 use Rattle.nesc_base.specs.declared.block.Block.{Block}
 use Rattle.nesc_base.specs.declared.numbers.FileNo.{FileNo}
+use Rattle.nesc_base.specs.Geometry.{block_owners}
 use Rattle.slot_layout.specs.Bytes.{block_of_bytes, four_bytes, spelled, two_bytes}
 
 -- who holds a data block: a file, and where in it the block stands
@@ -27,8 +28,8 @@ pub record MayOwn (lengths : List (Option ℕ)) (entries k : ℕ) (owner : Owner
   pub used : slice_get lengths (owner.0.0 - 1) ≡ Some (Some length)
   pub below : owner.1 < length
 
--- the block is this spelling of 128 entries, each free or of an owner that there may be
+-- the block is this spelling of all its entries, each free or of an owner that there may be
 pub record AreOwners (lengths : List (Option ℕ)) (entries : ℕ) (block : Block) (owners : List (Option Owner)) : Type 0 where
-  pub count : length owners ≡ 128
+  pub count : length owners ≡ block_owners
   pub good : (k : ℕ) (owner : Owner) → slice_get owners k ≡ Some (Some owner) → MayOwn lengths entries k owner
   pub spelling : block ≡ owner_block owners

@@ -14,9 +14,6 @@ use crate::{ImageFault, OpenFault, Owners, Table, owners_of, read_super, table_o
 use nesc_base::{Block, FileNo, Geometry};
 use std::alloc::{AllocError, Global};
 
-/// How many data blocks a map block has the owners of.
-const BLOCK_OWNERS: u32 = 128;
-
 /// What an image says, part by part.
 #[derive(Debug, Drop)]
 pub struct Opened {
@@ -94,7 +91,7 @@ fn read_owners(
     for b in 0..geometry.area_from() - map_at {
         let block = map_at + b;
         let map_block = &laid[block as usize];
-        let entries = geometry.blocks - BLOCK_OWNERS * b;
+        let entries = geometry.blocks - Geometry::BLOCK_OWNERS * b;
         let found = owners_of(map_block, &lengths, entries).ok_or(ImageFault::BadOwner { block })?;
         push_owners(&mut owners, &found)?;
     }
@@ -121,7 +118,7 @@ pub fn push_owners(
     requires { length found.now ≡ 128 }
     ensures { OnOk result (owners.new.items ≡ owners.old.items ++ found.now) }
 {
-    for k in 0..BLOCK_OWNERS {
+    for k in 0..Geometry::BLOCK_OWNERS {
         owners.push(found.get(k))?;
     }
     Ok(())

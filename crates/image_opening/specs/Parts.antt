@@ -3,7 +3,7 @@ use Rattle.std.specs.Prelude.{◌≡◌, ℕ, ◌*◌, true, false, List, length
 use Rattle.nesc_base.specs.declared.block.Block.{Block}
 use Rattle.nesc_base.specs.declared.geometry.Geometry.{Geometry}
 use Rattle.nesc_base.specs.Files.{Files}
-use Rattle.nesc_base.specs.Geometry.{map_blocks, table_at}
+use Rattle.nesc_base.specs.Geometry.{block_owners, map_blocks, table_at}
 use Rattle.nesc_base.specs.Places.{Places}
 use Rattle.image_layout.specs.declared.fault.ImageFault.{ImageFault}
 use Rattle.image_layout.specs.declared.fault.ImageFault.TheVariants.{BadList}
@@ -25,7 +25,7 @@ pub record AreParts (image : List Block) (geometry : Geometry) (entries : List (
 
 -- so many owners as an image of this division has, each of a data block and of a file that may own it
 pub record MayAllOwn (geometry : Geometry) (entries : List (Option TableEntry)) (owners : List (Option Owner)) : Type 0 where
-  pub count : length owners ≡ 128 * map_blocks geometry
+  pub count : length owners ≡ block_owners * map_blocks geometry
   pub each : (k : ℕ) (owner : Owner) → slice_get owners k ≡ Some (Some owner) → MayOwn (lengths_of entries) geometry.blocks k owner
 
 -- the image is divided so and opens as these files, and no slot is to be replayed

@@ -17,9 +17,6 @@ use nesc_base::{Block, Disk, FileNo, Geometry};
 use slot_layout::is_open;
 use std::alloc::Global;
 
-/// How many data blocks a map block has the owners of.
-const BLOCK_OWNERS: u32 = 128;
-
 /// What an image says, but for what its data blocks hold.
 #[derive(Debug, Drop)]
 pub struct Parts {
@@ -101,11 +98,11 @@ fn read_owners<D: Disk>(
     let lengths = lengths_of(table);
     let map_at = geometry.map_at();
     let map_blocks = geometry.area_from() - map_at;
-    let mut owners = Vec::with_capacity(alloc, (BLOCK_OWNERS * map_blocks) as usize)?;
+    let mut owners = Vec::with_capacity(alloc, (Geometry::BLOCK_OWNERS * map_blocks) as usize)?;
     for b in 0..map_blocks {
         let block = map_at + b;
         let map_block = read_block(disk, block)?;
-        let entries = geometry.blocks - BLOCK_OWNERS * b;
+        let entries = geometry.blocks - Geometry::BLOCK_OWNERS * b;
         let found = owners_of(&map_block, &lengths, entries).ok_or(ImageFault::BadOwner { block })?;
         push_owners(&mut owners, &found)?;
     }

@@ -1,8 +1,8 @@
 use crate::{Parts, read_parts};
 use image_layout::{ImageFault, OpenFault, write_super};
-use nesc_base::{BLOCK_BYTES, Block, DiskFault, FileNo, Geometry};
+use nesc_base::{BLOCK_BYTES, Block, DiskFault, FileNo, Geometry, NoMemory};
 use nesc_fakes::MemDisk;
-use std::alloc::{AllocError, Global};
+use std::alloc::Global;
 use std::test::Fail;
 
 /// The block that begins with these bytes and has zeros behind them.
@@ -12,23 +12,6 @@ fn block_of(bytes: &[u8]) -> Block {
         *to = *from;
     }
     block
-}
-
-/// A disk of so many blocks of zeros but for these, of which these reads fail.
-fn disk_of(
-    alloc: Global,
-    size: usize,
-    blocks: &[(usize, Block)],
-    fails: &[u64],
-) -> Result<MemDisk, AllocError> {
-    let mut image = vec![in alloc; Block::zero(); size]?;
-    for (at, block) in blocks {
-        if let Some(place) = image.get_mut(*at) {
-            *place = *block;
-        }
-    }
-    let fails = Vec::from_slice(alloc, fails)?;
-    Ok(MemDisk::new(alloc, image, fails, Vec::new(alloc)))
 }
 
 fn superblock() -> Block {
@@ -45,8 +28,8 @@ fn open(
     size: usize,
     blocks: &[(usize, Block)],
     fails: &[u64],
-) -> Result<Result<usize, OpenFault>, AllocError> {
-    let mut disk = disk_of(alloc, size, blocks, fails)?;
+) -> Result<Result<usize, OpenFault>, NoMemory> {
+    let mut disk = MemDisk::with_blocks(alloc, size, blocks, fails)?;
     Ok(read_parts(alloc, &mut disk).map(|parts: Parts| {
         let held = parts.owners.iter().flatten();
         held.filter(|owner| owner.0 == FileNo(1)).count()

@@ -13,7 +13,8 @@ use Rattle.nesc_base.specs.Block.{zero_block}
 use Rattle.nesc_base.specs.Files.{File}
 use Rattle.nesc_base.specs.Geometry.{IsGeometry, map_at, map_blocks, slot_at, table_at, total}
 use Rattle.slot_layout.specs.Bytes.{block_of_bytes, spelled}
-use Rattle.slot_layout.specs.Gate.{is_open, open_gate}
+use Rattle.slot_layout.specs.Gate.{is_open}
+use Rattle.slot_layout.proofs.Alike.{zero_gate}
 use Rattle.image_layout.specs.Opens.{HasParts, entries_in, lengths_of}
 use Rattle.image_layout.specs.Owners.{AreOwners, Owner, owner_block, owner_bytes}
 use Rattle.slot_layout.specs.Slots.{Lays, block_at}
@@ -42,10 +43,6 @@ spelled-zeros spell size x is (suc n) =
     let more : size + n * size ≡ suc n * size = omega arith in
     ap (λ (bytes : List ℕ). bytes ++ spelled spell (replicate n x)) is ∙ ap (λ (bytes : List ℕ). replicate size 0 ++ bytes) (spelled-zeros spell size x is n)
     ∙ replicate-append-replicate size (n * size) 0 ∙ ap (λ k. replicate k 0) more
-
-zero_gate : is_open zero_block ≡ false
-unfolding is_open open_gate zero_block
-zero_gate = refl
 
 zero_table : zero_block ≡ table_block (replicate 32 None)
 unfolding zero_block table_block

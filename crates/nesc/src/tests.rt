@@ -2,7 +2,7 @@ mod making;
 mod opening;
 mod running;
 
-use nesc_base::Block;
+use nesc_base::{Block, NoMemory};
 use nesc_fakes::{MemDisk, MemSink, MemSource};
 use nesc_monitor::{Status, run};
 use std::alloc::{AllocError, Global};
@@ -44,26 +44,9 @@ fn superblock() -> Block {
     block_of(&[(0, b"NESCHOST\x01\0\0\0\x10\0\0\0\x40\0\0\0\x23\x01")])
 }
 
-/// A disk of so many blocks of zeros but for these, of which these reads fail.
-fn disk_of(
-    alloc: Global,
-    size: usize,
-    blocks: &[(usize, Block)],
-    fails: &[u64],
-) -> Result<MemDisk, AllocError> {
-    let mut image = vec![in alloc; Block::zero(); size]?;
-    for (at, block) in blocks {
-        if let Some(place) = image.get_mut(*at) {
-            *place = *block;
-        }
-    }
-    let fails = Vec::from_slice(alloc, fails)?;
-    Ok(MemDisk::new(alloc, image, fails, Vec::new(alloc)))
-}
-
 /// The least image, of no files.
-fn new_image(alloc: Global) -> Result<MemDisk, AllocError> {
-    disk_of(alloc, 291, &[(0, superblock())], &[])
+fn new_image(alloc: Global) -> Result<MemDisk, NoMemory> {
+    MemDisk::with_blocks(alloc, 291, &[(0, superblock())], &[])
 }
 
 /// A source of these bytes, of which these reads fail.
@@ -82,7 +65,7 @@ fn tell_with(
     mut schedule: MemSource,
     image: &mut MemDisk,
     out_fails: &[u64],
-) -> Result<Told, AllocError> {
+) -> Result<Told, NoMemory> {
     let line = line_of(alloc, words)?;
     let mut spare = no_disk(alloc);
     let mut out = MemSink::new(alloc, Vec::from_slice(alloc, out_fails)?);
@@ -107,7 +90,7 @@ fn tell_over(
     commands: &str,
     schedule: &str,
     image: &mut MemDisk,
-) -> Result<Told, AllocError> {
+) -> Result<Told, NoMemory> {
     let commands = source_of(alloc, commands.as_bytes(), &[])?;
     let schedule = source_of(alloc, schedule.as_bytes(), &[])?;
     tell_with(alloc, words, commands, schedule, image, &[])

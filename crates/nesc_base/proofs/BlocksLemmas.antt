@@ -16,7 +16,7 @@ use Rattle.nesc_base.specs.declared.blocks.Form.{Form}
 use Rattle.nesc_base.specs.declared.blocks.Form.TheVariants.{Repeats, Full}
 use Rattle.nesc_base.specs.Block.{zero_block}
 use Rattle.nesc_base.specs.BlockText.{period_of, repeated}
-use Rattle.nesc_base.specs.Blocks.{AreKept, block_in, blocks_in, repeats}
+use Rattle.nesc_base.specs.Blocks.{AreKept, block_in, blocks_in, most_in_request, repeats}
 use Rattle.nesc_base.proofs.Differing.{same_by_places, slice_get-set_same, slice_get-set_other}
 
 -- Blocks of zeros
@@ -44,7 +44,7 @@ none_full zero k i is = cc
 none_full (suc n) zero i is = cc
 none_full (suc n) (suc k) i is = none_full n k i is
 
-pub AreKept-zeros : (n capacity : ℕ) (full : List Block) → 1 ≤ n → n ≤ 64 → full ≡ [] → n ≤ capacity → AreKept (replicate n zeros) full capacity
+pub AreKept-zeros : (n capacity : ℕ) (full : List Block) → 1 ≤ n → n ≤ most_in_request → full ≡ [] → n ≤ capacity → AreKept (replicate n zeros) full capacity
 AreKept-zeros n capacity full some within none room = record {
   some = omega (arith, length-zeros n);
   within = omega (arith, length-zeros n);
@@ -70,54 +70,46 @@ was_there forms k m put form is = elim (cases_eq m k) [
 counts : (b : Bool) → b ≡ true → ◌≡◌ {A = ℕ} (cond b 1 0) 1
 counts b is = ap {A = Bool} {B = ℕ} (λ t. cond t 1 0) is
 
--- a form that repeats in place of another that does
-pub AreKept-repeats : (forms : List Form) (full : List Block) (capacity k : ℕ) (bytes : List ℕ) (d : Form) → k < length forms → repeats (get_or forms k d) ≡ true → AreKept forms full capacity → AreKept (slice_set forms k (Repeats bytes)) full capacity
-AreKept-repeats forms full capacity k bytes d within was kept =
-    let size : length (slice_set forms k (Repeats bytes)) ≡ length forms = length-set forms k (Repeats bytes) in
+-- a form in place of one that repeats, where what it keeps in full is kept behind the others
+AreKept-put : (forms : List Form) (full more : List Block) (capacity k : ℕ) (put d : Form) → k < length forms → repeats (get_or forms k d) ≡ true
+    → cond (repeats put) 1 0 + length more ≡ length full + 1 → length full ≤ length more → ((i : ℕ) → put ≡ Full i → (length full ≤ i) × (i < length more))
+    → AreKept forms full capacity → AreKept (slice_set forms k put) more capacity
+AreKept-put forms full more capacity k put d within was counted longer behind kept =
+    let size : length (slice_set forms k put) ≡ length forms = length-set forms k put in
     let one = counts (repeats (get_or forms k d)) was in
-    let many = sum_by-set (λ form. cond (repeats form) 1 0) forms k (Repeats bytes) d within in
+    let many = sum_by-set (λ form. cond (repeats form) 1 0) forms k put d within in
     record {
       some = omega (arith, size, kept.some);
       within = omega (arith, size, kept.within);
-      counted = omega (arith, size, one, many, kept.counted);
+      counted = omega (arith, size, one, many, counted, kept.counted);
       room = omega (arith, size, kept.room);
-      inside = λ m i is. elim (was_there forms k m (Repeats bytes) (Full i) is) [ inl here ↦ absurd (let other = here.1 in cc) | inr there ↦ kept.inside m i there.1 ];
-      apart = λ j m i first second. elim (was_there forms k j (Repeats bytes) (Full i) first) [
-        | inl here ↦ absurd (let other = here.1 in cc)
-        | inr one_there ↦ elim (was_there forms k m (Repeats bytes) (Full i) second) [
-          | inl here ↦ absurd (let other = here.1 in cc)
-          | inr other_there ↦ kept.apart j m i one_there.1 other_there.1
+      inside = λ m i is. elim (was_there forms k m put (Full i) is) [
+        | inl here ↦ (behind i here.1).1
+        | inr there ↦ omega (arith, kept.inside m i there.1, longer)
+      ];
+      apart = λ j m i first second. elim (was_there forms k j put (Full i) first) [
+        | inl here ↦ elim (was_there forms k m put (Full i) second) [
+          | inl too ↦ here.0 ∙ sym too.0
+          | inr there ↦ absurd (omega (arith, (behind i here.1).0, kept.inside m i there.1))
+        ]
+        | inr there ↦ elim (was_there forms k m put (Full i) second) [
+          | inl here ↦ absurd (omega (arith, (behind i here.1).0, kept.inside j i there.1))
+          | inr too ↦ kept.apart j m i there.1 too.1
         ]
       ];
     }
+
+-- a form that repeats in place of another that does
+pub AreKept-repeats : (forms : List Form) (full : List Block) (capacity k : ℕ) (bytes : List ℕ) (d : Form) → k < length forms → repeats (get_or forms k d) ≡ true → AreKept forms full capacity → AreKept (slice_set forms k (Repeats bytes)) full capacity
+AreKept-repeats forms full capacity k bytes d within was kept =
+    AreKept-put forms full full capacity k (Repeats bytes) d within was (omega arith) (omega arith) (λ i is. absurd (let other = is in cc)) kept
 
 -- a block that is kept in full, behind the others, in place of one that repeats
 pub AreKept-full : (forms : List Form) (full more : List Block) (capacity k n : ℕ) (d : Form) → k < length forms → repeats (get_or forms k d) ≡ true → n ≡ length full → length more ≡ n + 1
     → AreKept forms full capacity → AreKept (slice_set forms k (Full n)) more capacity
 AreKept-full forms full more capacity k n d within was number longer kept =
-    let size : length (slice_set forms k (Full n)) ≡ length forms = length-set forms k (Full n) in
-    let one = counts (repeats (get_or forms k d)) was in
-    let many = sum_by-set (λ form. cond (repeats form) 1 0) forms k (Full n) d within in
-    record {
-      some = omega (arith, size, kept.some);
-      within = omega (arith, size, kept.within);
-      counted = omega (arith, size, one, many, kept.counted);
-      room = omega (arith, size, kept.room);
-      inside = λ m i is. elim (was_there forms k m (Full n) (Full i) is) [
-        | inl here ↦ let same : n ≡ i = let e = here.1 in cc in omega (arith, same, longer)
-        | inr there ↦ let below = kept.inside m i there.1 in omega (arith, below, number, longer)
-      ];
-      apart = λ j m i first second. elim (was_there forms k j (Full n) (Full i) first) [
-        | inl here ↦ elim (was_there forms k m (Full n) (Full i) second) [
-          | inl too ↦ here.0 ∙ sym too.0
-          | inr there ↦ let same : n ≡ i = let e = here.1 in cc in let below = kept.inside m i there.1 in absurd (omega (arith, same, below, number))
-        ]
-        | inr there ↦ elim (was_there forms k m (Full n) (Full i) second) [
-          | inl here ↦ let same : n ≡ i = let e = here.1 in cc in let below = kept.inside j i there.1 in absurd (omega (arith, same, below, number))
-          | inr too ↦ kept.apart j m i there.1 too.1
-        ]
-      ];
-    }
+    AreKept-put forms full more capacity k (Full n) d within was (omega (arith, number, longer)) (omega (arith, number, longer))
+    (λ i is. let same : n ≡ i = let e = is in cc in (omega (arith, same, number), omega (arith, same, number, longer))) kept
 
 -- The blocks that they are
 

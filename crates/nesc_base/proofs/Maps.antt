@@ -7,10 +7,10 @@ use Rattle.std.proofs.lemmas.Bool.{cases_eq}
 use Rattle.std.proofs.lemmas.Bool.Decides.{Decides-eqb}
 use Rattle.std.proofs.lemmas.Map.Lookups.{exact_unsigned}
 
-tied_same : (k : ℕ) → eq_by_cmp nat_cmp k k ≡ true
+pub tied_same : (k : ℕ) → eq_by_cmp nat_cmp k k ≡ true
 tied_same k = unsigned_tied k k ∙ (Decides-eqb k k).1 refl
 
-tied_other : (q k : ℕ) → q ≢ k → eq_by_cmp nat_cmp q k ≡ false
+pub tied_other : (q k : ℕ) → q ≢ k → eq_by_cmp nat_cmp q k ≡ false
 tied_other q k apart = unsigned_tied q k ∙ grind arith
 
 module _ {X : Type 0} where
@@ -19,6 +19,12 @@ module _ {X : Type 0} where
 
   pub get-insert_other : (m : FinMap nat_cmp X) (k : ℕ) (x : X) (q : ℕ) → q ≢ k → get (insert m k x) q ≡ get m q
   get-insert_other m k x q apart = get-insert nat_cmp_total m k x q ∙ ap (λ b. cond b (Some x) (get m q)) (tied_other q k apart)
+
+  pub get-remove_same : (m : FinMap nat_cmp X) (k : ℕ) → get (remove m k) k ≡ None
+  get-remove_same m k = get-remove nat_cmp_total m k k ∙ ap (λ b. cond b None (get m k)) (tied_same k)
+
+  pub get-remove_other : (m : FinMap nat_cmp X) (k q : ℕ) → q ≢ k → get (remove m k) q ≡ get m q
+  get-remove_other m k q apart = get-remove nat_cmp_total m k q ∙ ap (λ b. cond b None (get m q)) (tied_other q k apart)
 
   -- two maps that answer alike at one number, and alike at the others, are one
   same_by_cases : (m n : FinMap nat_cmp X) (k : ℕ) → get m k ≡ get n k → ((q : ℕ) → q ≢ k → get m q ≡ get n q) → m ≡ n
@@ -38,5 +44,5 @@ module _ {X : Type 0} where
   -- to insert what was not there and remove it again changes nothing
   pub remove-insert : (m : FinMap nat_cmp X) (k : ℕ) (x : X) → get m k ≡ None → remove (insert m k x) k ≡ m
   remove-insert m k x absent = same_by_cases _ _ k
-      (get-remove nat_cmp_total (insert m k x) k k ∙ ap (λ b. cond b None (get (insert m k x) k)) (tied_same k) ∙ sym absent)
-      (λ q apart. get-remove nat_cmp_total (insert m k x) k q ∙ ap (λ b. cond b None (get (insert m k x) q)) (tied_other q k apart) ∙ get-insert_other m k x q apart)
+      (get-remove_same (insert m k x) k ∙ sym absent)
+      (λ q apart. get-remove_other (insert m k x) k q apart ∙ get-insert_other m k x q apart)

@@ -6,6 +6,10 @@ use Rattle.nesc_base.specs.declared.blocks.Form.TheVariants.{Repeats, Full}
 use Rattle.nesc_base.specs.Block.{zero_block}
 use Rattle.nesc_base.specs.BlockText.{repeated}
 
+-- how many blocks one request, put, map or get has at most
+abbrev pub most_in_request : ℕ
+most_in_request = 64
+
 -- the block that is kept in a form, with the blocks that are kept in full
 abbrev pub block_in : List Block → Form → Block
 block_in full (Repeats bytes) = repeated bytes
@@ -22,7 +26,7 @@ repeats (Full i) = false
 -- for has room for all of them in full.
 pub record AreKept (forms : List Form) (full : List Block) (capacity : ℕ) : Type 0 where
   pub some : 1 ≤ length forms
-  pub within : length forms ≤ 64
+  pub within : length forms ≤ most_in_request
   pub counted : count_by repeats forms + length full ≡ length forms
   pub room : length forms ≤ capacity
   pub inside : (k i : ℕ) → slice_get forms k ≡ Some (Full i) → i < length full

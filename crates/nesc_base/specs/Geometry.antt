@@ -2,13 +2,27 @@
 use Rattle.std.specs.Prelude.{◌≡◌, ℕ, ◌+◌, ◌-◌, ◌*◌, ◌/◌, ◌≤◌}
 use Rattle.nesc_base.specs.declared.geometry.Geometry.{Geometry}
 
+-- how few and how many data blocks there may be
+abbrev pub least_blocks : ℕ
+least_blocks = 16
+
+abbrev pub most_blocks : ℕ
+most_blocks = 65536
+
+-- how few and how many data blocks may be changed between two commits
+abbrev pub least_slack : ℕ
+least_slack = 64
+
+abbrev pub most_slack : ℕ
+most_slack = 1024
+
 -- the sizes that an image may have
 pub record IsGeometry (geometry : Geometry) : Type 0 where
   pub version : geometry.version ≡ 1
-  pub some_blocks : 16 ≤ geometry.blocks
-  pub most_blocks : geometry.blocks ≤ 65536
-  pub some_slack : 64 ≤ geometry.slack
-  pub most_slack : geometry.slack ≤ 1024
+  pub enough_blocks : least_blocks ≤ geometry.blocks
+  pub few_blocks : geometry.blocks ≤ most_blocks
+  pub enough_slack : least_slack ≤ geometry.slack
+  pub little_slack : geometry.slack ≤ most_slack
 
 -- how many wholes of this size hold so many
 abbrev pub rounded_up : ℕ → ℕ → ℕ
@@ -18,9 +32,12 @@ rounded_up many size = (many + (size - 1)) / size
 abbrev pub table_blocks : Geometry → ℕ
 table_blocks geometry = 1
 
--- a map block has the owners of 128 data blocks
+-- how many data blocks a map block has the owners of
+abbrev pub block_owners : ℕ
+block_owners = 128
+
 abbrev pub map_blocks : Geometry → ℕ
-map_blocks geometry = rounded_up geometry.blocks 128
+map_blocks geometry = rounded_up geometry.blocks block_owners
 
 -- a slot has room for the data blocks of the slack, for the whole map and for the whole table
 abbrev pub slot_room : Geometry → ℕ

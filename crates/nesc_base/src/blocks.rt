@@ -1,5 +1,6 @@
 ghost use Rattle.std.specs.Prelude.{◌≡◌, ◌<◌, ◌≤◌, IfOk, Some, length, replicate, slice_get, slice_set};
 ghost use Rattle.nesc_base.specs.Block.{zero_block};
+ghost use Rattle.nesc_base.specs.Blocks.{most_in_request};
 
 use crate::{Block, NoMemory, PERIOD_BYTES};
 use std::alloc::Global;
@@ -42,7 +43,7 @@ impl Blocks {
     /// So many blocks of zeros. An `Err` says that there is no memory for them.
     pub fn zeros(alloc: Global, n: u32) -> Result<Blocks, NoMemory>
         requires some { 1 ≤ n }
-        requires within { n ≤ 64 }
+        requires within { n ≤ most_in_request }
         ensures { IfOk result (λ blocks. blocks ≡ replicate n zero_block) }
     {
         let zeros = Form::Repeats([0; PERIOD_BYTES]);
@@ -56,7 +57,7 @@ impl Blocks {
     pub fn len(&self) -> u32
         ensures count { result ≡ length self.now }
         ensures some { 1 ≤ result }
-        ensures within { result ≤ 64 }
+        ensures within { result ≤ most_in_request }
     {
         self.forms.len() as u32
     }

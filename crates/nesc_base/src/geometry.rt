@@ -26,6 +26,9 @@ impl Geometry {
     /// How many data blocks may be changed between two commits.
     pub const MOST_SLACK: u32 = 1_024;
 
+    /// How many data blocks a map block has the owners of.
+    pub const BLOCK_OWNERS: u32 = 128;
+
     /// How many blocks the table has.
     fn table_blocks(&self) -> u32
         ensures { result ≡ geo.table_blocks self.now }
@@ -38,7 +41,7 @@ impl Geometry {
         requires { geo.IsGeometry self.now }
         ensures { result ≡ geo.map_blocks self.now }
     {
-        self.blocks.div_ceil(128)
+        self.blocks.div_ceil(Geometry::BLOCK_OWNERS)
     }
 
     /// How many data blocks a slot has.

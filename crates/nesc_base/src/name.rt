@@ -1,6 +1,6 @@
 ghost use Rattle.std.specs.Prelude.{◌≡◌, ◌≤◌, ◌-◌, ◌++◌, IsTrue, length, replicate};
 ghost use Rattle.std.specs.List.{list_all};
-ghost use Rattle.nesc_base.specs.Name.{is_name, is_name_byte, name_of};
+ghost use Rattle.nesc_base.specs.Name.{is_name, is_name_byte, longest_name, name_of};
 
 use std::marker::Model;
 
@@ -16,20 +16,20 @@ pub struct Name {
 
 impl Model for Name {
     ghost use Rattle.std.specs.Prelude.{◌≡◌, ◌≤◌, ◌-◌, ◌++◌, IsTrue, List, ℕ, drop, length, replicate, take};
-    ghost use Rattle.nesc_base.specs.Name.{is_name};
+    ghost use Rattle.nesc_base.specs.Name.{is_name, longest_name};
     ghost use Rattle.nesc_base.specs.NameFields.{counted_back, padded_back};
 
     ghost Value = { List ℕ };
 
     ghost view = { λ name. take name.len name.bytes };
 
-    ghost inverse = { λ bytes. record { bytes = bytes ++ replicate (24 - length bytes) 0; len = length bytes } };
+    ghost inverse = { λ bytes. record { bytes = bytes ++ replicate (longest_name - length bytes) 0; len = length bytes } };
 
     ghost inverse_ok = { λ name kept i. record { bytes = padded_back name.bytes name.len kept.1 kept.2 i; len = counted_back name.bytes name.len kept.1 i } };
 
     // Zeros fill the rest, so that a name's bytes say all of it.
-    ghost invariant = { λ name. (name.len ≤ 24) × (name.len ≤ length name.bytes)
-        × (drop name.len name.bytes ≡ replicate (24 - name.len) 0) × IsTrue (is_name (take name.len name.bytes)) };
+    ghost invariant = { λ name. (name.len ≤ longest_name) × (name.len ≤ length name.bytes)
+        × (drop name.len name.bytes ≡ replicate (longest_name - name.len) 0) × IsTrue (is_name (take name.len name.bytes)) };
 }
 
 fn is_name_byte(b: u8) -> bool
@@ -52,8 +52,8 @@ fn is_name(bytes: &[u8]) -> bool
 
 // The bytes, with zeros behind them.
 fn padded(bytes: &[u8]) -> [u8; LONGEST_NAME]
-    requires { length bytes.now ≤ 24 }
-    ensures { result ≡ bytes.now ++ replicate (24 - length bytes.now) 0 }
+    requires { length bytes.now ≤ longest_name }
+    ensures { result ≡ bytes.now ++ replicate (longest_name - length bytes.now) 0 }
 {
     let mut padded = [0; LONGEST_NAME];
     padded[..bytes.len()].copy_from_slice(bytes);

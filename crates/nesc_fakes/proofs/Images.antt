@@ -2,7 +2,7 @@
 use Rattle.std.proofs.Common.{◌≡◌, ◌≢◌, ℕ, zero, suc, ◌<◌, ◌≤◌, ◌⊎◌, inl, inr, Bool, true, false, ◌&&◌, cond, List, [], ◌∷◌, ◌++◌, length, Contains, All, slice_set, slice_index_or, refl, sym, ◌∙◌, ap, subst, arith}
 use Rattle.std.specs.Prelude.{◌↔◌}
 use Rattle.std.proofs.lemmas.Bool.{cond-true, cond-false, lt-ltb, le-ltb, le-leb, lt-leb, eq-eqb, ne_eqb, cases_eq, and_left}
-use Rattle.std.proofs.lemmas.List.{length-set, append-nil}
+use Rattle.std.proofs.lemmas.List.{length-set}
 use Rattle.std.proofs.lemmas.List.Elements.{All-head, All-tail, Contains-append_right}
 use Rattle.std.proofs.lemmas.Map.Made.{Contains-tail}
 use Rattle.nesc_base.specs.declared.block.Block.{Block}
@@ -61,13 +61,20 @@ set_back {X} (y ∷ xs) (suc i) x d = ap (λ (ys : List X). y ∷ ys) (set_back 
 pub none_in : (i : ℕ) → ¬ Contains {X = ℕ} [] i
 none_in i found = absurd (omega (arith, found.1))
 
+same_places : {xs ys : List ℕ} → xs ≡ ys → (at : ℕ) → Contains xs at ↔ Contains ys at
+same_places same at = ((λ is. subst (λ ps. Contains ps at) same is), (λ is. subst (λ ps. Contains ps at) (sym same) is))
+
 -- ---- from a disk to what follows it, by a call or by none that is kept
 
-pub record Follows (old new : MemDiskState) (later : List Call) : Type 0 where
+-- a call came: the clock rose, and these were added to the calls
+pub record Comes (old : MemDiskState) (clock : ℕ) (calls later : List Call) : Type 0 where
   pub sound : IsSound old.blocks old.calls old.clock
   pub bound : old.clock ≤ count_end
-  pub clock : new.clock ≡ risen old.clock
-  pub calls : new.calls ≡ old.calls ++ later
+  pub rises : clock ≡ risen old.clock
+  pub adds : calls ≡ old.calls ++ later
+
+pub record Follows (old new : MemDiskState) (later : List Call) : Type 0 where
+  pub comes : Comes old new.clock new.calls later
   pub size : length new.blocks ≡ length old.blocks
   pub back : (k : ℕ) → k < new.clock → taken_back k later new.blocks ≡ old.blocks
   pub hidden : (k : ℕ) (places : List ℕ) → k < new.clock → unsynced k later places ≡ places
@@ -75,30 +82,30 @@ pub record Follows (old new : MemDiskState) (later : List Call) : Type 0 where
 module _ (old new : MemDiskState) (later : List Call) (follows : Follows old new later) where
   same_contents : (k : ℕ) → k ≤ old.clock → k < count_end → contents_at new k ≡ contents_at old k
   same_contents k le lt =
-      let before : k < new.clock = omega (arith, follows.clock) in
+      let before : k < new.clock = omega (arith, follows.comes.rises) in
       let not_now : k ≢ new.clock = omega arith in
       cond-false _ _ _ (ne_eqb k new.clock not_now)
-      ∙ ap (λ (calls : List Call). taken_back k calls new.blocks) follows.calls
+      ∙ ap (λ (calls : List Call). taken_back k calls new.blocks) follows.comes.adds
       ∙ taken_back-append k old.calls later new.blocks
       ∙ ap (taken_back k old.calls) (follows.back k before)
       ∙ elim (cases_eq k old.clock) [
         | inl now ↦
-            let by_now = subst (λ (j : ℕ). All (λ call. clock_of call ≤ j) old.calls) (sym now) follows.sound.by_now in
+            let by_now = subst (λ (j : ℕ). All (λ call. clock_of call ≤ j) old.calls) (sym now) follows.comes.sound.by_now in
             taken_back_none k old.calls old.blocks by_now ∙ sym (cond-true _ _ _ (eq-eqb k old.clock now))
         | inr earlier ↦ sym (cond-false _ _ _ (ne_eqb k old.clock earlier))
       ]
 
   same_unsynced : (k : ℕ) → k ≤ old.clock → k < count_end → unsynced k new.calls [] ≡ unsynced k old.calls []
   same_unsynced k le lt =
-      let before : k < new.clock = omega (arith, follows.clock) in
-      ap (λ (calls : List Call). unsynced k calls []) follows.calls ∙ unsynced-append k old.calls later [] ∙ follows.hidden k _ before
+      let before : k < new.clock = omega (arith, follows.comes.rises) in
+      ap (λ (calls : List Call). unsynced k calls []) follows.comes.adds ∙ unsynced-append k old.calls later [] ∙ follows.hidden k _ before
 
   -- what a stop could leave at a clock value that is over stays what it was
   pub goes : Goes (known_of old) (known_of new)
   goes = record {
     same_size = follows.size;
     still_tells = refl;
-    later = omega (arith, follows.clock, follows.bound);
+    later = omega (arith, follows.comes.rises, follows.comes.bound);
     over = λ _ k image le lt.
         let contents = same_contents k le lt in
         let places = same_unsynced k le lt in (
@@ -107,7 +114,7 @@ module _ (old new : MemDiskState) (later : List Call) (follows : Follows old new
             left = subst (λ cs. DiffersAt (Contains (unsynced k old.calls [])) cs image) contents (subst (λ ps. DiffersAt (Contains ps) (contents_at new k) image) places left.left);
           }),
           (λ left. record {
-            by_now = omega (arith, follows.clock, follows.bound);
+            by_now = omega (arith, follows.comes.rises, follows.comes.bound);
             left = subst (λ ps. DiffersAt (Contains ps) (contents_at new k) image) (sym places) (subst (λ cs. DiffersAt (Contains (unsynced k old.calls [])) cs image) (sym contents) left.left);
           }),
         );
@@ -119,13 +126,13 @@ module _ (old new : MemDiskState) (later : List Call) (follows : Follows old new
 
   unsynced_now : unsynced new.clock new.calls [] ≡ places_now
   unsynced_now =
-      ap (λ (calls : List Call). unsynced new.clock calls []) follows.calls
+      ap (λ (calls : List Call). unsynced new.clock calls []) follows.comes.adds
       ∙ unsynced-append new.clock old.calls later []
-      ∙ ap (unsynced new.clock later) (unsynced_same old.clock new.clock old.calls [] follows.sound.by_now (omega (arith, follows.clock, follows.bound)))
+      ∙ ap (unsynced new.clock later) (unsynced_same old.clock new.clock old.calls [] follows.comes.sound.by_now (omega (arith, follows.comes.rises, follows.comes.bound)))
 
   left_past : (k : ℕ) (image : List Block) → old.clock < k → IsLeft new k image → DiffersAt (Contains places_now) new.blocks image
   left_past k image past left =
-      let now : k ≡ new.clock = omega (arith, left.by_now, follows.clock) in
+      let now : k ≡ new.clock = omega (arith, left.by_now, follows.comes.rises) in
       let left_now : IsLeft new new.clock image = subst (λ (j : ℕ). IsLeft new j image) now left in
       subst (λ cs. DiffersAt (Contains places_now) cs image) (contents_at_now new) (subst (λ ps. DiffersAt (Contains ps) (contents_at new new.clock) image) unsynced_now left_now.left)
 
@@ -142,13 +149,10 @@ module _ (old new : MemDiskState) (later : List Call) (follows : Follows old new
 
 -- ---- a call that was not kept
 
-module _ (old new : MemDiskState) (sound : IsSound old.blocks old.calls old.clock) (bound : old.clock ≤ count_end) (clock : new.clock ≡ risen old.clock) (calls : new.calls ≡ old.calls) (blocks : new.blocks ≡ old.blocks) where
+module _ (old new : MemDiskState) (comes : Comes old new.clock new.calls []) (blocks : new.blocks ≡ old.blocks) where
   pub follows_none : Follows old new []
   follows_none = record {
-    sound = sound;
-    bound = bound;
-    clock = clock;
-    calls = calls ∙ sym (append-nil old.calls);
+    comes = comes;
     size = ap length blocks;
     back = λ k lt. blocks;
     hidden = λ k places lt. refl;
@@ -158,9 +162,7 @@ module _ (old new : MemDiskState) (sound : IsSound old.blocks old.calls old.cloc
   writes_none places = writes old new [] follows_none places (subst (λ (bs : List Block). DiffersAt places old.blocks bs) (sym blocks) (differs_itself places old.blocks)) (λ at is. inr is)
 
   pub same_by_none : (at : ℕ) → (known_of new).unsynced at ↔ (known_of old).unsynced at
-  same_by_none at =
-      let same = unsynced_now old new [] follows_none in
-      ((λ is. subst (λ ps. Contains ps at) same is), (λ is. subst (λ ps. Contains ps at) (sym same) is))
+  same_by_none = same_places (unsynced_now old new [] follows_none)
 
 -- ---- a write
 
@@ -180,24 +182,21 @@ contains_one at other places = (
   ],
 )
 
-module _ (old new : MemDiskState) (at : ℕ) (block d : Block) (sound : IsSound old.blocks old.calls old.clock) (bound : old.clock ≤ count_end) (clock : new.clock ≡ risen old.clock)
-    (calls : new.calls ≡ old.calls ++ write_call old at d ∷ []) (blocks : new.blocks ≡ slice_set old.blocks at block) where
+module _ (old new : MemDiskState) (at : ℕ) (block d : Block) (comes : Comes old new.clock new.calls (write_call old at d ∷ []))
+    (blocks : new.blocks ≡ slice_set old.blocks at block) where
   pub follows_write : Follows old new (write_call old at d ∷ [])
   follows_write = record {
-    sound = sound;
-    bound = bound;
-    clock = clock;
-    calls = calls;
+    comes = comes;
     size = ap length blocks ∙ length-set old.blocks at block;
     back = λ k lt.
-        cond-true _ _ _ (lt-ltb k (risen old.clock) (omega (arith, lt, clock)))
+        cond-true _ _ _ (lt-ltb k (risen old.clock) (omega (arith, lt, comes.rises)))
         ∙ ap (λ (bs : List Block). slice_set bs at (slice_index_or old.blocks at d)) blocks
         ∙ set_back old.blocks at block d;
-    hidden = λ k places lt. unsynced_by_later k (write_call old at d) places (omega (arith, lt, clock));
+    hidden = λ k places lt. unsynced_by_later k (write_call old at d) places (omega (arith, lt, comes.rises));
   }
 
   one_more : (places : List ℕ) → unsynced_by new.clock (write_call old at d) places ≡ at ∷ places
-  one_more places = cond-true _ _ _ (le-leb (risen old.clock) new.clock (omega (arith, clock)))
+  one_more places = cond-true _ _ _ (le-leb (risen old.clock) new.clock (omega (arith, comes.rises)))
 
   pub writes_here : WritesAt (here at) (known_of old) (known_of new)
   writes_here =
@@ -220,21 +219,17 @@ among : (done : Bool) (places : List ℕ) (i : ℕ) → Contains (cond done [] p
 among true places i found = absurd (none_in i found)
 among false places i found = found
 
-module _ (old new : MemDiskState) (done : Bool) (sound : IsSound old.blocks old.calls old.clock) (bound : old.clock ≤ count_end) (clock : new.clock ≡ risen old.clock)
-    (calls : new.calls ≡ old.calls ++ Sync (risen old.clock) done ∷ []) (blocks : new.blocks ≡ old.blocks) where
+module _ (old new : MemDiskState) (done : Bool) (comes : Comes old new.clock new.calls (Sync (risen old.clock) done ∷ [])) (blocks : new.blocks ≡ old.blocks) where
   pub follows_sync : Follows old new (Sync (risen old.clock) done ∷ [])
   follows_sync = record {
-    sound = sound;
-    bound = bound;
-    clock = clock;
-    calls = calls;
+    comes = comes;
     size = ap length blocks;
     back = λ k lt. blocks;
-    hidden = λ k places lt. unsynced_by_later k (Sync (risen old.clock) done) places (omega (arith, lt, clock));
+    hidden = λ k places lt. unsynced_by_later k (Sync (risen old.clock) done) places (omega (arith, lt, comes.rises));
   }
 
   synced : (places : List ℕ) → unsynced_by new.clock (Sync (risen old.clock) done) places ≡ cond done [] places
-  synced places = ap (λ (b : Bool). cond (b && done) [] places) (le-leb (risen old.clock) new.clock (omega (arith, clock)))
+  synced places = ap (λ (b : Bool). cond (b && done) [] places) (le-leb (risen old.clock) new.clock (omega (arith, comes.rises)))
 
   pub writes_nowhere : WritesAt nowhere (known_of old) (known_of new)
   writes_nowhere =
@@ -252,6 +247,4 @@ module _ (old new : MemDiskState) (done : Bool) (sound : IsSound old.blocks old.
       none_in at (subst (λ ps. Contains ps at) none is)
 
   pub same_by_sync : done ≡ false → (at : ℕ) → (known_of new).unsynced at ↔ (known_of old).unsynced at
-  same_by_sync bad at =
-      let same : unsynced new.clock new.calls [] ≡ unsynced old.clock old.calls [] = unsynced_after ∙ cond-false done [] (unsynced old.clock old.calls []) bad in
-      ((λ is. subst (λ ps. Contains ps at) same is), (λ is. subst (λ ps. Contains ps at) (sym same) is))
+  same_by_sync bad = same_places (unsynced_after ∙ cond-false done [] (unsynced old.clock old.calls []) bad)

@@ -1,5 +1,5 @@
 -- Whether a stop can leave an image, decided place by place.
-use Rattle.std.proofs.Common.{◌≡◌, ◌≢◌, ℕ, ◌+◌, ◌<◌, ◌≤◌, ◌⊎◌, inl, inr, Bool, true, false, not, ◌&&◌, ◌||◌, ◌==◌, nat_le, nat_lt, cond, List, [], ◌∷◌, ◌++◌, length, Some, Contains, take, drop, slice_get, slice_set, get_or, refl, sym, ◌∙◌, ap, subst, arith}
+use Rattle.std.proofs.Common.{◌≡◌, ◌≢◌, ℕ, zero, suc, ◌+◌, ◌<◌, ◌≤◌, ◌⊎◌, inl, inr, Bool, true, false, not, ◌&&◌, ◌||◌, ◌==◌, nat_le, nat_lt, cond, List, [], ◌∷◌, ◌++◌, length, Some, Contains, take, drop, slice_get, slice_set, get_or, refl, sym, ◌∙◌, ap, subst, arith}
 use Rattle.std.specs.Bool.{Decides}
 use Rattle.std.proofs.lemmas.Bool.{cond_both, or_cases, or_left, or_right, and_parts, and_from, eqb-true, eq-eqb, ne_eqb, cond-false, cases_eq, cases_lt, not-false}
 use Rattle.std.proofs.lemmas.Bool.Decides.{Decides-eqb}
@@ -16,6 +16,7 @@ use Rattle.nesc_base.specs.Disk.{DiffersAt}
 use Rattle.nesc_fakes.specs.declared.mem_disk.Call.{Call}
 use Rattle.nesc_fakes.specs.declared.mem_disk.Call.TheVariants.{Write, Sync}
 use Rattle.nesc_fakes.specs.MemDisk.{MemDiskState, without, taken_back, contents_at, is_unsynced_by, unsynced_by, unsynced, IsLeft}
+use Rattle.nesc_fakes.specs.Torn.{torn_at}
 use Rattle.nesc_fakes.proofs.Images.{none_in, unsynced-append}
 
 -- ---- as many blocks as there are
@@ -131,3 +132,33 @@ module _ (image : List Block) (i : ℕ) (d block : Block) (differs : Bool) (with
       let test : pointwise eqb (get_or image i d).0 block.0 ≡ true = decides.1 (ap (λ (b : Block). b.0) same) in
       let alike : differs ≡ false = is ∙ ap not test in
       absurd (cc)
+
+-- ---- an image that is made place by place
+
+slice_get-before : {X : Type 0} (xs ys : List X) (i : ℕ) → i < length xs → slice_get (xs ++ ys) i ≡ slice_get xs i
+slice_get-before [] ys i inside = absurd (omega arith)
+slice_get-before (x ∷ xs) ys zero inside = refl
+slice_get-before (x ∷ xs) ys (suc i) inside = slice_get-before xs ys i (omega arith)
+
+slice_get-seam : {X : Type 0} (xs : List X) (x : X) → slice_get (xs ++ x ∷ []) (length xs) ≡ Some x
+slice_get-seam [] x = refl
+slice_get-seam (y ∷ xs) x = slice_get-seam xs x
+
+module _ (contents : List Block) (places : List ℕ) (pick : ℕ) where
+  -- it has the torn block at a place that is unsynced, and else what stood there
+  abbrev pub IsMadeAt : List Block → ℕ → Type 0
+  IsMadeAt image at = (Contains places at → slice_get image at ≡ Some (torn_at pick at)) × (¬ Contains places at → slice_get image at ≡ slice_get contents at)
+
+  pub made_more : (image : List Block) (block : Block) (n : ℕ) → length image ≡ n → ((at : ℕ) → at < n → IsMadeAt image at)
+      → (Contains places n → block ≡ torn_at pick n) → (¬ Contains places n → slice_get contents n ≡ Some block)
+      → (at : ℕ) → at < n + 1 → IsMadeAt (image ++ block ∷ []) at
+  made_more image block n count made torn whole at lt = elim (cases_eq at n) [
+    | inl last ↦
+        let here : slice_get (image ++ block ∷ []) at ≡ Some block = ap (slice_get (image ++ block ∷ [])) (last ∙ sym count) ∙ slice_get-seam image block in (
+          (λ found. here ∙ ap Some (torn (subst (λ (k : ℕ). Contains places k) last found) ∙ ap (torn_at pick) (sym last))),
+          (λ none. here ∙ sym (whole (λ found. none (subst (λ (k : ℕ). Contains places k) (sym last) found))) ∙ ap (slice_get contents) (sym last)),
+        )
+    | inr before ↦
+        let same : slice_get (image ++ block ∷ []) at ≡ slice_get image at = slice_get-before image (block ∷ []) at (omega arith) in
+        ((λ found. same ∙ (made at (omega arith)).0 found), (λ none. same ∙ (made at (omega arith)).1 none))
+  ]

@@ -1,6 +1,7 @@
 -- What a disk in memory knows of itself: what it reads as, and the calls that it was given.
-use Rattle.std.specs.Prelude.{◌↔◌, ℕ, ◌≤◌, ◌==◌, nat_lt, nat_le, ◌&&◌, ◌||◌, not, Bool, true, if◌then◌else◌, List, [], ◌∷◌, Contains, All, length, slice_set}
+use Rattle.std.specs.Prelude.{◌≡◌, ◌↔◌, ◌⊎◌, ℕ, ◌≤◌, ◌==◌, nat_lt, nat_le, ◌&&◌, ◌||◌, not, Bool, true, if◌then◌else◌, List, [], ◌∷◌, ◌++◌, Contains, All, length, take, slice_set}
 use Rattle.nesc_base.specs.declared.block.Block.{Block}
+use Rattle.nesc_base.specs.Count.{risen}
 use Rattle.nesc_base.specs.Disk.{DiffersAt, Known}
 use Rattle.nesc_fakes.specs.declared.mem_disk.Call.{Call}
 use Rattle.nesc_fakes.specs.declared.mem_disk.Call.TheVariants.{Write, Sync}
@@ -15,6 +16,24 @@ pub record MemDiskState : Type 0 where
   pub read_fails : List ℕ
   pub write_fails : List ℕ
   pub room : ℕ
+
+-- a new disk of the first of these blocks
+abbrev pub fresh : List Block → List ℕ → List ℕ → MemDiskState
+fresh blocks read_fails write_fails = record {
+  blocks = take 4294967295 blocks;
+  calls = [];
+  clock = 0;
+  reads = 0;
+  faults = 0;
+  read_fails = read_fails;
+  write_fails = write_fails;
+  room = 0;
+}
+
+-- each of these put at its place, one after the other
+abbrev pub put_all : List (ℕ × Block) → List Block → List Block
+put_all [] image = image
+put_all (put ∷ more) image = put_all more (slice_set image put.0 put.1)
 
 -- where the clock stood after a call
 abbrev pub clock_of : Call → ℕ
@@ -73,3 +92,9 @@ known_of disk = record {
 -- these places are unsynced, and no others
 abbrev pub AreUnsynced : MemDiskState → (ℕ → Type 0) → Type 0
 AreUnsynced disk places = (at : ℕ) → (known_of disk).unsynced at ↔ places at
+
+-- a write or a sync has failed: it is kept too, unless there is no memory for it
+abbrev pub Failed : Call → MemDiskState → MemDiskState → Type 0
+Failed call old new =
+    (new ≡ record old { calls = old.calls ++ call ∷ []; clock = risen old.clock; faults = risen old.faults; room = new.room })
+    ⊎ ((old.room ≡ 0) × (new ≡ record old { clock = risen old.clock; faults = risen old.faults; room = new.room }))

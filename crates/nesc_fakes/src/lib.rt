@@ -7,6 +7,7 @@ mod mem_source;
 mod rest;
 #[cfg(test)]
 mod tests;
+mod torn;
 
 pub use mem_disk::MemDisk;
 pub use mem_sink::MemSink;

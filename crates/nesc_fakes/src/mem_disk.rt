@@ -3,7 +3,8 @@ ghost use Rattle.nesc_base.specs.Count.{risen};
 ghost use Rattle.nesc_base.specs.Disk.{Goes, IsSettled, OrUnsynced, Unchanged, WritesAt, here, nowhere};
 ghost use Rattle.nesc_base.specs.Fault.{HasCause, Rose};
 
-use nesc_base::{Block, Disk, DiskFault};
+use crate::torn::{drawn, torn_block};
+use nesc_base::{Block, Disk, DiskFault, NoMemory};
 use std::alloc::Global;
 use std::marker::Model;
 
@@ -85,8 +86,10 @@ impl Model for MemDisk {
 }
 
 impl MemDisk {
-    ghost use Rattle.std.specs.Prelude.{IsTrue};
-    ghost use Rattle.nesc_fakes.specs.MemDisk.{contents_at, unsynced, IsLeft};
+    ghost use Rattle.std.specs.Prelude.{ℕ, IfOk, IsTrue, replicate};
+    ghost use Rattle.nesc_base.specs.Block.{zero_block};
+    ghost use Rattle.nesc_fakes.specs.MemDisk.{contents_at, fresh, put_all, unsynced, IsLeft};
+    ghost use Rattle.nesc_fakes.specs.Torn.{torn_at};
 
     /// A disk of these blocks, of which it drops those past the first 2^32 - 1. `read_fails` lists the reads that fail,
     /// by their numbers, from 1 on, and `write_fails` the writes and the syncs, which are numbered together: the number
@@ -98,16 +101,7 @@ impl MemDisk {
         read_fails: Vec<u64>,
         write_fails: Vec<u64>,
     ) -> MemDisk
-        ensures { result ≡ record {
-          blocks = take 4294967295 blocks.items;
-          calls = [];
-          clock = 0;
-          reads = 0;
-          faults = 0;
-          read_fails = read_fails.items;
-          write_fails = write_fails.items;
-          room = 0;
-        } }
+        ensures { result ≡ fresh blocks.items read_fails.items write_fails.items }
     {
         blocks.truncate(u32::MAX as usize);
         MemDisk {
@@ -119,6 +113,26 @@ impl MemDisk {
             read_fails,
             write_fails,
         }
+    }
+
+    /// A disk of so many blocks of zeros but for these, each put at its place, of which these reads fail. What is put
+    /// past the end is dropped. An `Err` says that there is no memory for it.
+    pub fn with_blocks(
+        alloc: Global,
+        size: usize,
+        blocks: &[(usize, Block)],
+        read_fails: &[u64],
+    ) -> Result<MemDisk, NoMemory>
+        ensures { IfOk result (λ disk. disk ≡ fresh (put_all blocks.now (replicate size zero_block)) read_fails.now []) }
+    {
+        let mut image = vec![in alloc; Block::zero(); size]?;
+        for (at, block) in blocks {
+            if *at < image.len() {
+                image[*at] = *block;
+            }
+        }
+        let read_fails = Vec::from_slice(alloc, read_fails)?;
+        Ok(MemDisk::new(alloc, image, read_fails, Vec::new(alloc)))
     }
 
     /// What the disk reads as, block by block.
@@ -143,6 +157,38 @@ impl MemDisk {
             }
         }
         true
+    }
+
+    /// An image that a stop while the clock stood at `k` could have left. The places that were unsynced hold bytes that
+    /// a generator draws from `pick` on, so that other picks give other bytes; from 0 it would draw zeros alone. An
+    /// `Err` says that there is no memory for it.
+    pub fn image(&self, alloc: Global, k: u64, pick: u64) -> Result<Vec<Block>, NoMemory>
+        requires over { k ≤ self.now.clock }
+        requires seeded { 0 < pick }
+        ensures left { IfOk result (λ image. IsLeft self.now k image.items) }
+        ensures torn { IfOk result (λ image. (at : ℕ) → at < length image.items → Contains (unsynced k self.now.calls []) at →
+            slice_get image.items at ≡ Some (torn_at pick at)) }
+    {
+        let mut image = Vec::new(alloc);
+        let mut x = pick;
+        for at in 0..self.blocks.len() as u32 {
+            x = drawn(x);
+            image.push(self.left_at(k, at, torn_block(x)))?;
+        }
+        Ok(image)
+    }
+
+    // What a stop leaves at a place: this block where the place is unsynced, and else the one that stood there.
+    fn left_at(&self, k: u64, at: u32, torn: Block) -> Block
+        requires { at < length self.now.blocks }
+        ensures torn { Contains (unsynced k self.now.calls []) at → result ≡ torn }
+        ensures whole { ¬ Contains (unsynced k self.now.calls []) at → slice_get (contents_at self.now k) at ≡ Some result }
+    {
+        if self.is_unsynced(k, at) {
+            torn
+        } else {
+            self.block_at(k, at)
+        }
     }
 
     // The block that stood at a place when the clock stood at `k`.
@@ -176,7 +222,7 @@ impl MemDisk {
 
 impl Disk for MemDisk {
     ghost use Rattle.nesc_fakes.specs.declared.mem_disk.Call.TheVariants.{Write, Sync};
-    ghost use Rattle.nesc_fakes.specs.MemDisk.{AreUnsynced, known_of};
+    ghost use Rattle.nesc_fakes.specs.MemDisk.{AreUnsynced, Failed, known_of};
     ghost use Rattle.nesc_fakes.specs.MemDiskLaws.{reads_as_left, left_now};
     ghost use Rattle.std.proofs.Common.{refl};
 
@@ -258,16 +304,7 @@ impl Disk for MemDisk {
           clock = risen self.old.clock;
           room = self.new.room;
         }) }
-        ensures err { OnErr result ((self.new ≡ record self.old {
-          calls = self.old.calls ++ Write (risen self.old.clock) at (slice_index_or self.old.blocks at from.now) ∷ [];
-          clock = risen self.old.clock;
-          faults = risen self.old.faults;
-          room = self.new.room;
-        }) ⊎ ((self.old.room ≡ 0) × (self.new ≡ record self.old {
-          clock = risen self.old.clock;
-          faults = risen self.old.faults;
-          room = self.new.room;
-        }))) }
+        ensures err { OnErr result (Failed (Write (risen self.old.clock) at (slice_index_or self.old.blocks at from.now)) self.old self.new) }
         ensures room { self.old.room + length self.old.calls ≤ self.new.room + length self.new.calls }
     {
         self.clock = self.clock.saturating_add(1);
@@ -308,16 +345,7 @@ impl Disk for MemDisk {
           clock = risen self.old.clock;
           room = self.new.room;
         }) }
-        ensures err { OnErr result ((self.new ≡ record self.old {
-          calls = self.old.calls ++ Sync (risen self.old.clock) false ∷ [];
-          clock = risen self.old.clock;
-          faults = risen self.old.faults;
-          room = self.new.room;
-        }) ⊎ ((self.old.room ≡ 0) × (self.new ≡ record self.old {
-          clock = risen self.old.clock;
-          faults = risen self.old.faults;
-          room = self.new.room;
-        }))) }
+        ensures err { OnErr result (Failed (Sync (risen self.old.clock) false) self.old self.new) }
         ensures room { self.old.room + length self.old.calls ≤ self.new.room + length self.new.calls }
     {
         self.clock = self.clock.saturating_add(1);

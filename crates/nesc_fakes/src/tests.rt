@@ -1,7 +1,8 @@
 ghost use Rattle.std.specs.Prelude.{◌≡◌, ◌<◌, length};
 
 use crate::{MemDisk, MemSink, MemSource};
-use nesc_base::{Block, Disk, DiskFault, ReadFault, Sink, Source, WriteFault};
+use nesc_base::{Block, Disk, DiskFault, NoMemory, ReadFault, Sink, Source, WriteFault};
+use std::alloc::Global;
 use std::test::Fail;
 
 fn read<S: Source>(source: &mut S, into: &mut [u8]) -> Result<usize, ReadFault>
@@ -129,6 +130,40 @@ fn disk_leaves_what_no_sync_has_made_sure_of(rt: HostRuntime) -> Result<(), Fail
         (6, [0, 9, 8], false),
     ] {
         assert_eq!(rt; leaves(&disk, clock, bytes), could, "{bytes:?} at {clock}");
+    }
+    Ok(())
+}
+
+/// The image that a pick gives, and none at a clock value to come.
+fn image_at(alloc: Global, disk: &MemDisk, clock: u64, pick: u64) -> Result<Vec<Block>, NoMemory> {
+    if pick == 0 || disk.clock() < clock {
+        return Ok(Vec::new(alloc));
+    }
+    disk.image(alloc, clock, pick)
+}
+
+#[test]
+fn disk_tears_what_is_unsynced(rt: HostRuntime) -> Result<(), Fail> {
+    let alloc = rt.alloc();
+    let mut disk = MemDisk::with_blocks(alloc, 3, &[(2, filled(5))], &[])?;
+    assert_eq!(rt; write_block(&mut disk, 0, 7), Ok(()));
+    assert_eq!(rt; write_block(&mut disk, 1, 8), Ok(()));
+    assert_eq!(rt; disk.sync(), Ok(()));
+    assert_eq!(rt; write_block(&mut disk, 2, 9), Ok(()));
+
+    // the numbers that a shift by 13, 7 and 17 draws from 1 on
+    let first = Block::repeated(&1_082_269_761_u64.to_le_bytes());
+    let second = Block::repeated(&1_152_992_998_833_853_505_u64.to_le_bytes());
+    let third = Block::repeated(&11_177_516_664_432_764_457_u64.to_le_bytes());
+    for (clock, image) in [
+        (0, [filled(0), filled(0), filled(5)]),
+        (1, [first, filled(0), filled(5)]),
+        (2, [first, second, filled(5)]),
+        (3, [filled(7), filled(8), filled(5)]),
+        (4, [filled(7), filled(8), third]),
+    ] {
+        let given = image_at(alloc, &disk, clock, 1)?;
+        assert_eq!(rt; given.as_slice(), image.as_slice(), "at {clock}");
     }
     Ok(())
 }

@@ -14,7 +14,7 @@ use Rattle.nesc_requests.specs.declared.request.Request.{Request}
 use Rattle.nesc_requests.specs.declared.request.Request.TheVariants.{Read, Write}
 use Rattle.nesc_requests.specs.declared.word.Word.{Word}
 use Rattle.nesc_requests.specs.declared.word.Word.TheVariants.{T, G, H, I}
-use Rattle.file_model.specs.Draws.{event_of, left_after}
+use Rattle.file_model.specs.Draws.{event_of, left_after, without_drawn}
 use Rattle.file_model.specs.Files.{Change}
 use Rattle.file_model.specs.Functions.{Function}
 use Rattle.file_model.specs.Machine.{Step}
@@ -29,7 +29,7 @@ use Rattle.script_lang.specs.Left.{Left}
 use Rattle.script_lang.proofs.LeftLemmas.{given_back-taken}
 use Rattle.nesc_session.specs.Room.{room_brought, room_for, room_for_event, room_to_write}
 use Rattle.nesc_session.specs.Session.{MayStep}
-use Rattle.nesc_monitor.specs.Steps.{ComesBack, MayGiveBack, room_for_script, with_back, with_next, without_drawn}
+use Rattle.nesc_monitor.specs.Steps.{ComesBack, MayGiveBack, room_for_script, with_back, with_next}
 
 -- Drawing
 
@@ -90,21 +90,17 @@ submitted : {setting : Setting} {old : State} {f : FnNo} {request : Request} {ch
     → (one other : Function) × Submits setting.machine.queue one request outcome.answer other
 submitted step = (_, step.comes.submits.after, step.comes.submits.becomes)
 
+-- a request that came back is the guest's next, as before it was drawn
+back_whole : (script : Script) (f : FnNo) (request : Request) (left : List Request) → requests_of script f.0 ≡ request ∷ left → (back : Request) → back ≡ request → with_next (without_drawn script (Submit f request)) f.0 back ≡ script
+back_whole script f request left next back same =
+    ap (with_next (without_drawn script (Submit f request)) f.0) same
+    ∙ given_back-taken script f.0 request (without_drawn script (Submit f request)) (record { left = left; next = next; result = ap (λ (requests : List Request). record script { guests = with_numbered script.guests f.0 (drop 1 requests) }) next })
+
 back_after : (script : Script) (f : FnNo) (request : Request) (left : List Request) → requests_of script f.0 ≡ request ∷ left → (told : Answer) (most : ℕ) (one other : Function) → Submits most one request told other
     → with_back (without_drawn script (Submit f request)) (G f) told ≡ left_after script (Submit f request) told
 back_after script f request left next (answer.Queued id) most one other submits = refl
 back_after script f request left next (answer.Off back) most one other submits = back_whole script f request left next back submits.1
-  where
-    back_whole : (script : Script) (f : FnNo) (request : Request) (left : List Request) → requests_of script f.0 ≡ request ∷ left → (back : Request) → back ≡ request → with_next (without_drawn script (Submit f request)) f.0 back ≡ script
-    back_whole script f request left next back same =
-        ap (with_next (without_drawn script (Submit f request)) f.0) same
-        ∙ given_back-taken script f.0 request (without_drawn script (Submit f request)) (record { left = left; next = next; result = ap (λ (requests : List Request). record script { guests = with_numbered script.guests f.0 (drop 1 requests) }) next })
 back_after script f request left next (answer.Full back) most one other submits = back_whole script f request left next back submits.1
-  where
-    back_whole : (script : Script) (f : FnNo) (request : Request) (left : List Request) → requests_of script f.0 ≡ request ∷ left → (back : Request) → back ≡ request → with_next (without_drawn script (Submit f request)) f.0 back ≡ script
-    back_whole script f request left next back same =
-        ap (with_next (without_drawn script (Submit f request)) f.0) same
-        ∙ given_back-taken script f.0 request (without_drawn script (Submit f request)) (record { left = left; next = next; result = ap (λ (requests : List Request). record script { guests = with_numbered script.guests f.0 (drop 1 requests) }) next })
 back_after script f request left next other_answer most one other submits = absurd submits
 
 -- what is left behind the step is what was left behind the drawing, with a request that came back

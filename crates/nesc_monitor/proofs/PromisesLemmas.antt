@@ -20,77 +20,36 @@ use Rattle.nesc_monitor.specs.Watched.{DiskNeverFell, HasBegun, HasDiskFailed, H
 use Rattle.nesc_monitor.specs.Words.{command_of}
 use Rattle.nesc_monitor.specs.declared.ending.Ending.{Ending}
 use Rattle.nesc_monitor.specs.declared.ending.Ending.TheVariants.{Done, Words, Memory, Commands, Schedule, Image, Device, Read, Write}
+use Rattle.nesc_monitor.specs.declared.ending.Status.{Status}
 use Rattle.nesc_monitor.specs.declared.ending.Status.TheVariants as status
 use Rattle.nesc_monitor.specs.declared.words.Command.{Command}
 use Rattle.nesc_monitor.specs.declared.words.Command.TheVariants.{Run, Make}
 
--- The endings of a status
+-- The ending of a status
 
-ending_done : (ending : Ending) → status_of ending ≡ status.Done → ending ≡ Done
-ending_done Done is = refl
-ending_done Words is = cc
-ending_done Memory is = cc
-ending_done Commands is = cc
-ending_done Schedule is = cc
-ending_done (Image fault) is = cc
-ending_done Device is = cc
-ending_done Read is = cc
-ending_done Write is = cc
+-- what an ending of this status is, where it can be one alone: an image is refused for some cause
+abbrev Ends : Status → Ending → Type 0
+Ends status.Done ending = ending ≡ Done
+Ends status.Words ending = ending ≡ Words
+Ends status.Image ending = (fault : ImageFault) × (ending ≡ Image fault)
+Ends status.Device ending = ending ≡ Device
+Ends status.Read ending = ending ≡ Read
+Ends status.Write ending = ending ≡ Write
+Ends other ending = Unit {0}
 
-ending_words : (ending : Ending) → status_of ending ≡ status.Words → ending ≡ Words
-ending_words Done is = cc
-ending_words Words is = refl
-ending_words Memory is = cc
-ending_words Commands is = cc
-ending_words Schedule is = cc
-ending_words (Image fault) is = cc
-ending_words Device is = cc
-ending_words Read is = cc
-ending_words Write is = cc
+ends : (ending : Ending) → Ends (status_of ending) ending
+ends Done = refl
+ends Words = refl
+ends Memory = tt
+ends Commands = tt
+ends Schedule = tt
+ends (Image fault) = (fault, refl)
+ends Device = refl
+ends Read = refl
+ends Write = refl
 
-ending_device : (ending : Ending) → status_of ending ≡ status.Device → ending ≡ Device
-ending_device Done is = cc
-ending_device Words is = cc
-ending_device Memory is = cc
-ending_device Commands is = cc
-ending_device Schedule is = cc
-ending_device (Image fault) is = cc
-ending_device Device is = refl
-ending_device Read is = cc
-ending_device Write is = cc
-
-ending_read : (ending : Ending) → status_of ending ≡ status.Read → ending ≡ Read
-ending_read Done is = cc
-ending_read Words is = cc
-ending_read Memory is = cc
-ending_read Commands is = cc
-ending_read Schedule is = cc
-ending_read (Image fault) is = cc
-ending_read Device is = cc
-ending_read Read is = refl
-ending_read Write is = cc
-
-ending_write : (ending : Ending) → status_of ending ≡ status.Write → ending ≡ Write
-ending_write Done is = cc
-ending_write Words is = cc
-ending_write Memory is = cc
-ending_write Commands is = cc
-ending_write Schedule is = cc
-ending_write (Image fault) is = cc
-ending_write Device is = cc
-ending_write Read is = cc
-ending_write Write is = refl
-
-ending_image : (ending : Ending) → status_of ending ≡ status.Image → (fault : ImageFault) × (ending ≡ Image fault)
-ending_image Done is = cc
-ending_image Words is = cc
-ending_image Memory is = cc
-ending_image Commands is = cc
-ending_image Schedule is = cc
-ending_image (Image fault) is = (fault, refl)
-ending_image Device is = cc
-ending_image Read is = cc
-ending_image Write is = cc
+ending_of : (ending : Ending) (told : Status) → status_of ending ≡ told → Ends told ending
+ending_of ending told is = subst (λ (told : Status). Ends told ending) is (ends ending)
 
 -- Texts
 
@@ -185,35 +144,25 @@ module _ (call : Call) where
   image_refused : (ending : Ending) → Ran ending → AreKnownAccepted call → AreReadWell call → IsKnownRefused call.image.before → HasDiskWorked call.image → IsImageRefused (status_of ending)
   image_refused Done runs texts well down disk = absurd (image_clash call.image.before runs.1.steps.geometry runs.1.steps.files runs.1.steps.image_opens down)
   image_refused Words runs texts well down disk = absurd runs.0
-  image_refused Memory runs texts well down disk = tt
+  image_refused Memory runs texts well down disk = inr refl
   image_refused Commands runs texts well down disk = absurd (commands_clash call.commands.before texts.commands_known texts.commands runs.0.refused)
   image_refused Schedule runs texts well down disk = absurd (schedule_clash call.schedule.before texts.schedule_known texts.schedule runs.0.refused)
-  image_refused (Image fault) runs texts well down disk = tt
+  image_refused (Image fault) runs texts well down disk = inl refl
   image_refused Device runs texts well down disk = absurd (disk runs.1)
   image_refused Read runs texts well down disk = absurd (⊎_elim (λ failed. well.commands failed.0) (λ whole. well.schedule whole.1) runs.0)
   image_refused Write runs texts well down disk = absurd (image_clash call.image.before runs.2.steps.geometry runs.2.steps.files runs.2.steps.image_opens down)
 
-  commands_refused : (ending : Ending) → Ran ending → Tells call.commands.before → SaysNoScript call.commands.before → AreReadWell call → IsInputRefused (status_of ending)
-  commands_refused Done runs known none well = absurd (commands_clash call.commands.before known runs.0.commands_accepted none)
-  commands_refused Words runs known none well = absurd runs.0
-  commands_refused Memory runs known none well = tt
-  commands_refused Commands runs known none well = tt
-  commands_refused Schedule runs known none well = tt
-  commands_refused (Image fault) runs known none well = absurd (commands_clash call.commands.before known runs.0.commands_accepted none)
-  commands_refused Device runs known none well = absurd (commands_clash call.commands.before known runs.0.commands_accepted none)
-  commands_refused Read runs known none well = absurd (⊎_elim (λ failed. well.commands failed.0) (λ whole. well.schedule whole.1) runs.0)
-  commands_refused Write runs known none well = absurd (commands_clash call.commands.before known runs.0.commands_accepted none)
-
-  schedule_refused : (ending : Ending) → Ran ending → Tells call.schedule.before → SaysNoWords call.schedule.before → AreReadWell call → IsInputRefused (status_of ending)
-  schedule_refused Done runs known none well = absurd (schedule_clash call.schedule.before known runs.0.schedule_accepted none)
-  schedule_refused Words runs known none well = absurd runs.0
-  schedule_refused Memory runs known none well = tt
-  schedule_refused Commands runs known none well = tt
-  schedule_refused Schedule runs known none well = tt
-  schedule_refused (Image fault) runs known none well = absurd (schedule_clash call.schedule.before known runs.0.schedule_accepted none)
-  schedule_refused Device runs known none well = absurd (schedule_clash call.schedule.before known runs.0.schedule_accepted none)
-  schedule_refused Read runs known none well = absurd (⊎_elim (λ failed. well.commands failed.0) (λ whole. well.schedule whole.1) runs.0)
-  schedule_refused Write runs known none well = absurd (schedule_clash call.schedule.before known runs.0.schedule_accepted none)
+  -- where not both texts were accepted, one is refused, or there was no memory
+  text_refused : (ending : Ending) → Ran ending → AreReadWell call → ¬ AreTaken call.commands call.schedule → IsInputRefused (status_of ending)
+  text_refused Done runs well none = absurd (none runs.0)
+  text_refused Words runs well none = absurd runs.0
+  text_refused Memory runs well none = inr refl
+  text_refused Commands runs well none = inl refl
+  text_refused Schedule runs well none = inl refl
+  text_refused (Image fault) runs well none = absurd (none runs.0)
+  text_refused Device runs well none = absurd (none runs.0)
+  text_refused Read runs well none = absurd (⊎_elim (λ failed. well.commands failed.0) (λ whole. well.schedule whole.1) runs.0)
+  text_refused Write runs well none = absurd (none runs.0)
 
   -- The command `make`
 
@@ -242,37 +191,20 @@ module _ (call : Call) where
   of_small Read geometry makes small = absurd makes
   of_small Write geometry makes small = absurd (omega (arith, small, makes.0.enough))
 
-  is_small : (geometry : Geometry) (fault : ImageFault) → Made geometry (Image fault) → call.image.before.size < total geometry
+  -- a disk that is refused is too small, which is told with its size; it was only read, and nothing went out
+  record IsSmall (geometry : Geometry) (fault : ImageFault) : Type 0 where
+    small : call.image.before.size < total geometry
+    told : fault ≡ BadSize call.image.before.size
+    only_read : IsOnlyRead call.image
+    silent : HasTakenNothing call.out
+
+  is_small : (geometry : Geometry) (fault : ImageFault) → Made geometry (Image fault) → IsSmall geometry fault
   is_small geometry (BadSuper block) makes = absurd makes
-  is_small geometry (BadSize block) makes = makes.0
+  is_small geometry (BadSize block) makes = record { small = makes.0; told = ap BadSize makes.1; only_read = makes.2; silent = makes.3 }
   is_small geometry (BadList block) makes = absurd makes
   is_small geometry (BadTable block) makes = absurd makes
   is_small geometry (BadOwner block) makes = absurd makes
   is_small geometry (TwiceOwned file v) makes = absurd makes
-
-  small_told : (geometry : Geometry) (fault : ImageFault) → Made geometry (Image fault) → fault ≡ BadSize call.image.before.size
-  small_told geometry (BadSuper block) makes = absurd makes
-  small_told geometry (BadSize block) makes = ap BadSize makes.1
-  small_told geometry (BadList block) makes = absurd makes
-  small_told geometry (BadTable block) makes = absurd makes
-  small_told geometry (BadOwner block) makes = absurd makes
-  small_told geometry (TwiceOwned file v) makes = absurd makes
-
-  small_only_read : (geometry : Geometry) (fault : ImageFault) → Made geometry (Image fault) → IsOnlyRead call.image
-  small_only_read geometry (BadSuper block) makes = absurd makes
-  small_only_read geometry (BadSize block) makes = makes.2
-  small_only_read geometry (BadList block) makes = absurd makes
-  small_only_read geometry (BadTable block) makes = absurd makes
-  small_only_read geometry (BadOwner block) makes = absurd makes
-  small_only_read geometry (TwiceOwned file v) makes = absurd makes
-
-  small_silent : (geometry : Geometry) (fault : ImageFault) → Made geometry (Image fault) → HasTakenNothing call.out
-  small_silent geometry (BadSuper block) makes = absurd makes
-  small_silent geometry (BadSize block) makes = makes.3
-  small_silent geometry (BadList block) makes = absurd makes
-  small_silent geometry (BadTable block) makes = absurd makes
-  small_silent geometry (BadOwner block) makes = absurd makes
-  small_silent geometry (TwiceOwned file v) makes = absurd makes
 
   made_out : (ending : Ending) (geometry : Geometry) → Made geometry ending → total geometry ≤ call.image.before.size → HasDiskWorked call.image → HasWorked call.out
       → status_of ending ≡ status.Done
@@ -281,7 +213,7 @@ module _ (call : Call) where
   made_out Memory geometry makes enough disk out = absurd makes
   made_out Commands geometry makes enough disk out = absurd makes
   made_out Schedule geometry makes enough disk out = absurd makes
-  made_out (Image fault) geometry makes enough disk out = absurd (omega (arith, enough, is_small geometry fault makes))
+  made_out (Image fault) geometry makes enough disk out = absurd (omega (arith, enough, (is_small geometry fault makes).small))
   made_out Device geometry makes enough disk out = absurd (disk makes.1)
   made_out Read geometry makes enough disk out = absurd makes
   made_out Write geometry makes enough disk out = absurd (out makes.1)
@@ -292,7 +224,7 @@ module _ (call : Call) where
   makes_early Memory geometry makes early = absurd makes
   makes_early Commands geometry makes early = absurd makes
   makes_early Schedule geometry makes early = absurd makes
-  makes_early (Image fault) geometry makes early = small_silent geometry fault makes
+  makes_early (Image fault) geometry makes early = (is_small geometry fault makes).silent
   makes_early Device geometry makes early = makes.2
   makes_early Read geometry makes early = absurd makes
   makes_early Write geometry makes early = absurd early
@@ -308,8 +240,8 @@ module _ (call : Call) where
 
     Comes-words : (command : Option Command) → Said command → (status_of ending ≡ status.Words) ↔ (command ≡ None)
     Comes-words None comes = ((λ is. refl), (λ is. ap status_of comes.0))
-    Comes-words (Some Run) comes = ((λ is. absurd (subst Ran (ending_words ending is) comes.0).0), (λ is. absurd (none-some _ (sym is))))
-    Comes-words (Some (Make geometry)) comes = ((λ is. absurd (subst (Made geometry) (ending_words ending is) comes.2)), (λ is. absurd (none-some _ (sym is))))
+    Comes-words (Some Run) comes = ((λ is. absurd (subst Ran (ending_of ending status.Words is) comes.0).0), (λ is. absurd (none-some _ (sym is))))
+    Comes-words (Some (Make geometry)) comes = ((λ is. absurd (subst (Made geometry) (ending_of ending status.Words is) comes.2)), (λ is. absurd (none-some _ (sym is))))
 
     Comes-early : (command : Option Command) → Said command → IsEarly (status_of ending) → HasTakenNothing call.out
     Comes-early None comes early = comes.5.bytes
@@ -318,18 +250,18 @@ module _ (call : Call) where
 
     Comes-device : (command : Option Command) → Said command → status_of ending ≡ status.Device → HasDiskFailed call.image
     Comes-device None comes is = absurd (let h = sym (ap status_of comes.0) ∙ is in cc)
-    Comes-device (Some Run) comes is = (subst Ran (ending_device ending is) comes.0).1
-    Comes-device (Some (Make geometry)) comes is = (subst (Made geometry) (ending_device ending is) comes.2).1
+    Comes-device (Some Run) comes is = (subst Ran (ending_of ending status.Device is) comes.0).1
+    Comes-device (Some (Make geometry)) comes is = (subst (Made geometry) (ending_of ending status.Device is) comes.2).1
 
     Comes-read : (command : Option Command) → Said command → status_of ending ≡ status.Read → HasOneFailed call.commands call.schedule
     Comes-read None comes is = absurd (let h = sym (ap status_of comes.0) ∙ is in cc)
-    Comes-read (Some Run) comes is = (subst Ran (ending_read ending is) comes.0).0
-    Comes-read (Some (Make geometry)) comes is = absurd (subst (Made geometry) (ending_read ending is) comes.2)
+    Comes-read (Some Run) comes is = (subst Ran (ending_of ending status.Read is) comes.0).0
+    Comes-read (Some (Make geometry)) comes is = absurd (subst (Made geometry) (ending_of ending status.Read is) comes.2)
 
     Comes-write : (command : Option Command) → Said command → status_of ending ≡ status.Write → HasFailed call.out
     Comes-write None comes is = absurd (let h = sym (ap status_of comes.0) ∙ is in cc)
-    Comes-write (Some Run) comes is = (subst Ran (ending_write ending is) comes.0).1
-    Comes-write (Some (Make geometry)) comes is = (subst (Made geometry) (ending_write ending is) comes.2).1
+    Comes-write (Some Run) comes is = (subst Ran (ending_of ending status.Write is) comes.0).1
+    Comes-write (Some (Make geometry)) comes is = (subst (Made geometry) (ending_of ending status.Write is) comes.2).1
 
     pub EveryCommand-comes : Said (command_of call.words) → (HasWorked call.err → HasTaken (error_line ending) call.err) → HasBegun (error_line ending) call.err
         → IsTakenFromFront call.commands × IsTakenFromFront call.schedule → call.spare.same → Goes call.image.before call.image.after → call.image.stays
@@ -374,8 +306,8 @@ module _ (call : Call) where
     OfRun-comes command comes moment is =
         let said = subst Said is comes in
         record {
-          done = λ done. (subst Ran (ending_done ending done) said.0).1;
-          cut_short = λ cut. (subst Ran (ending_write ending cut) said.0).2;
+          done = λ done. (subst Ran (ending_of ending status.Done done) said.0).1;
+          cut_short = λ cut. (subst Ran (ending_of ending status.Write cut) said.0).2;
           in_turn = in_turn ending said.0;
           commands_read = λ past. (taken ending said.0 past).commands_read;
           schedule_read = λ past. (taken ending said.0 past).schedule_read;
@@ -395,8 +327,8 @@ module _ (call : Call) where
     OfRunReadWell-comes command comes is well =
         let runs = (subst Said is comes).0 in
         record {
-          commands_refused = λ known none. commands_refused ending runs known none well;
-          schedule_refused = λ known none. schedule_refused ending runs known none well;
+          commands_refused = λ known none. text_refused ending runs well (λ taken. commands_clash call.commands.before known taken.commands_accepted none);
+          schedule_refused = λ known none. text_refused ending runs well (λ taken. schedule_clash call.schedule.before known taken.schedule_accepted none);
           image_refused = λ texts. image_refused ending runs texts well;
           carried_out = λ texts. carried_out ending runs texts well;
         }
@@ -407,13 +339,13 @@ module _ (call : Call) where
         let makes = said.2 in
         record {
           statuses = of_make ending geometry makes;
-          made = λ done. (subst (Made geometry) (ending_done ending done) makes).0;
-          line = λ done. (subst (Made geometry) (ending_done ending done) makes).1;
-          cut_made = λ cut. (subst (Made geometry) (ending_write ending cut) makes).0;
-          cut_line = λ cut. (subst (Made geometry) (ending_write ending cut) makes).2;
-          small = ((λ image. let fault = ending_image ending image in is_small geometry fault.0 (subst (Made geometry) fault.1 makes)), of_small ending geometry makes);
-          small_told = λ fault is. small_told geometry fault (subst (Made geometry) is makes);
-          small_only_read = λ image. let fault = ending_image ending image in small_only_read geometry fault.0 (subst (Made geometry) fault.1 makes);
+          made = λ done. (subst (Made geometry) (ending_of ending status.Done done) makes).0;
+          line = λ done. (subst (Made geometry) (ending_of ending status.Done done) makes).1;
+          cut_made = λ cut. (subst (Made geometry) (ending_of ending status.Write cut) makes).0;
+          cut_line = λ cut. (subst (Made geometry) (ending_of ending status.Write cut) makes).2;
+          small = ((λ image. let fault = ending_of ending status.Image image in (is_small geometry fault.0 (subst (Made geometry) fault.1 makes)).small), of_small ending geometry makes);
+          small_told = λ fault is. (is_small geometry fault (subst (Made geometry) is makes)).told;
+          small_only_read = λ image. let fault = ending_of ending status.Image image in (is_small geometry fault.0 (subst (Made geometry) fault.1 makes)).only_read;
           any_moment = subst Moment is moment;
           commands = said.0;
           schedule = said.1;

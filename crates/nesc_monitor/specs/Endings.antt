@@ -1,5 +1,5 @@
 -- What a command of the program comes to, and what it says of it.
-use Rattle.std.specs.Prelude.{◌≡◌, ℕ, ◌++◌, List, [], codes, Option, Some, None}
+use Rattle.std.specs.Prelude.{◌≡◌, ◌⊎◌, ℕ, ◌++◌, List, [], codes, Option, Some, None}
 use Rattle.std.specs.Fmt.{decimal}
 use Rattle.nesc_base.specs.declared.geometry.Geometry.{Geometry}
 use Rattle.nesc_base.specs.Disk.{Known, LeavesSince}
@@ -88,15 +88,11 @@ IsCarriedOut status out = ⊥
 
 -- a text was refused, or there was no memory
 abbrev pub IsInputRefused : Status → Type 0
-IsInputRefused Input = Unit {0}
-IsInputRefused Memory = Unit {0}
-IsInputRefused status = ⊥
+IsInputRefused status = (status ≡ Input) ⊎ (status ≡ Memory)
 
 -- the image was refused, or there was no memory
 abbrev pub IsImageRefused : Status → Type 0
-IsImageRefused Image = Unit {0}
-IsImageRefused Memory = Unit {0}
-IsImageRefused status = ⊥
+IsImageRefused status = (status ≡ Image) ⊎ (status ≡ Memory)
 
 -- it comes before the first step
 abbrev pub IsEarly : Status → Type 0

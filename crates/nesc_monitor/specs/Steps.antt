@@ -1,11 +1,11 @@
 -- The steps of a run, and what is told of them.
-use Rattle.std.specs.Prelude.{◌≡◌, ℕ, ◌+◌, ◌≤◌, ◌++◌, List, [], ◌∷◌, drop, Option, Result, Ok}
+use Rattle.std.specs.Prelude.{◌≡◌, ℕ, ◌+◌, ◌≤◌, ◌++◌, List, [], ◌∷◌, Option, Result, Ok}
 use Rattle.std.specs.List.{flat_map, sum_by}
 use Rattle.nesc_base.specs.Sink.{Appends, Lent}
 use Rattle.nesc_base.specs.declared.sink.WriteFault.{WriteFault}
 use Rattle.nesc_requests.specs.Script.{Script, requests_of, with_numbered}
 use Rattle.nesc_requests.specs.declared.event.Event.{Event}
-use Rattle.nesc_requests.specs.declared.event.Event.TheVariants.{Submit, Host}
+use Rattle.nesc_requests.specs.declared.event.Event.TheVariants.{Submit}
 use Rattle.nesc_requests.specs.Requests.{IsNumbered}
 use Rattle.nesc_requests.specs.declared.request.Request.{Request}
 use Rattle.nesc_requests.specs.declared.word.Word.{Word}
@@ -23,12 +23,6 @@ use Rattle.text_kit.specs.Writes.{Writes}
 use Rattle.nesc_session.specs.Room.{room_for, room_to_write}
 
 -- What is drawn
-
--- the script without_drawn what the event was drawn from
-abbrev pub without_drawn : Script → Event → Script
-without_drawn script (Host command) = record script { host = drop 1 script.host }
-without_drawn script (Submit f request) = record script { guests = with_numbered script.guests f.0 (drop 1 (requests_of script f.0)) }
-without_drawn script event = script
 
 -- a request that was drawn was taken of its guest, and can be given back
 abbrev pub MayGiveBack : Left → Event → Type 0

@@ -1,6 +1,7 @@
 -- What the words of the command line say.
 use Rattle.std.specs.Prelude.{ℕ, ◌&&◌, nat_le, if◌then◌else◌, List, [], ◌∷◌, codes, Option, Some, None}
 use Rattle.std.specs.Str.{bytes_eq}
+use Rattle.nesc_base.specs.Geometry.{least_blocks, most_blocks, least_slack, most_slack}
 use Rattle.text_kit.specs.Number.{number_of}
 use Rattle.nesc_monitor.specs.declared.words.Command.{Command}
 use Rattle.nesc_monitor.specs.declared.words.Command.TheVariants.{Run, Make}
@@ -16,9 +17,9 @@ make_with blocks slack = None
 
 -- an image of so many data blocks, with so much slack
 abbrev pub make_of : List ℕ → List ℕ → Option Command
-make_of blocks slack = make_with (between 16 65536 (number_of blocks)) (between 64 1024 (number_of slack))
+make_of blocks slack = make_with (between least_blocks most_blocks (number_of blocks)) (between least_slack most_slack (number_of slack))
 
--- `run`, or `make --blocks N`, or `make --blocks N --slack S`; without_drawn S the slack is 64
+-- `run`, or `make --blocks N`, or `make --blocks N --slack S`; without `--slack` the slack is the least
 abbrev pub command_of : List (List ℕ) → Option Command
 command_of (name ∷ []) = if bytes_eq name (codes "run") then Some Run else None
 command_of (name ∷ key ∷ blocks ∷ []) =

@@ -1,5 +1,6 @@
 ghost use Rattle.std.specs.Prelude.{◌≡◌, ◌<◌, ◌≤◌, [], length, IsErrOf, IfOk, OnOk};
 ghost use Rattle.nesc_base.specs.Fault.{HasCause, Rose};
+ghost use Rattle.script_lang.specs.Limits.{most_bytes};
 ghost use Rattle.nesc_monitor.specs.Reading.{GivesAll, GivesTooMany, TakesFront};
 
 use nesc_base::{ReadFault, Source};
@@ -43,7 +44,7 @@ impl From<ReadFault> for ReadStop {
 /// Reads a text to its end, or until it is longer than a text may be.
 pub fn read_text<S: Source>(alloc: Global, source: &mut S) -> Result<Vec<u8>, ReadStop>
     ensures whole { IfOk result (λ text. GivesAll text.items (S.left source.old) (S.left source.new)) }
-    ensures within { IfOk result (λ text. length text.items ≤ 16777216) }
+    ensures within { IfOk result (λ text. length text.items ≤ most_bytes) }
     ensures too_long { result ≡ Err ReadStop.TooLong → GivesTooMany (S.left source.old) }
     ensures taken { ¬ Rose (S.faults source.old) (S.faults source.new) → TakesFront (S.left source.old) (S.left source.new) }
     ensures cause { HasCause (S.faults source.old) (S.faults source.new) (result ≡ Err ReadStop.Fault) }

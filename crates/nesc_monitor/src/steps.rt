@@ -1,9 +1,9 @@
 //! A word of the schedule draws an event, if there is one, which makes one step, and its lines are written.
 ghost use Rattle.std.specs.Prelude.{◌≡◌, ℕ, IfNone, IfSome};
 ghost use Rattle.nesc_base.specs.Files.{Files};
-ghost use Rattle.file_model.specs.Draws.{event_of};
+ghost use Rattle.file_model.specs.Draws.{event_of, without_drawn};
 ghost use Rattle.nesc_session.specs.Session.{IsReadyFor, MayStep, state_of};
-ghost use Rattle.nesc_monitor.specs.Steps.{ComesBack, MayGiveBack, TellsWord, TellsWords, room_for_script, with_back, without_drawn};
+ghost use Rattle.nesc_monitor.specs.Steps.{ComesBack, MayGiveBack, TellsWord, TellsWords, room_for_script, with_back};
 
 use nesc_base::{Sink, WriteFault};
 use nesc_requests::{Event, Word};

@@ -1,7 +1,7 @@
 ghost use Rattle.std.specs.Prelude.{◌≡◌, ◌≤◌, Some, length, IfErr, IfOk, OnOk};
 ghost use Rattle.nesc_requests.specs.Machine.{IsMachine};
 ghost use Rattle.script_lang.specs.CommandsText.{IsCommandsText, blocks_in_all};
-ghost use Rattle.script_lang.specs.Limits.{most_blocks};
+ghost use Rattle.script_lang.specs.Limits.{most_blocks, most_bytes};
 ghost use Rattle.script_lang.specs.ScheduleText.{schedule_of};
 ghost use Rattle.nesc_monitor.specs.Reading.{GivesAll};
 ghost use Rattle.nesc_monitor.specs.Texts.{IsReadWhole, IsRefusal, AreRefusedFor, IsTakenFromFront, SaysScript, SaysWords};
@@ -31,7 +31,7 @@ pub struct Accepted {
 fn read_texts<S: Source>(alloc: Global, commands: &mut S, schedule: &mut S) -> Result<Texts, Ending>
     ensures commands { IfOk result (λ texts. GivesAll texts.commands.items (S.left commands.old) (S.left commands.new)) }
     ensures schedule { IfOk result (λ texts. GivesAll texts.schedule.items (S.left schedule.old) (S.left schedule.new)) }
-    ensures within { IfOk result (λ texts. (length texts.commands.items ≤ 16777216) × (length texts.schedule.items ≤ 16777216)) }
+    ensures within { IfOk result (λ texts. (length texts.commands.items ≤ most_bytes) × (length texts.schedule.items ≤ most_bytes)) }
     ensures refused { IfErr result (λ ending. AreRefusedFor ending
         (watch S.left S.faults commands.old commands.new)
         (watch S.left S.faults schedule.old schedule.new)) }

@@ -1,4 +1,5 @@
 ghost use Rattle.std.specs.Prelude.{◌≡◌, ◌≤◌};
+ghost use Rattle.nesc_base.specs.Blocks.{most_in_request};
 ghost use Rattle.nesc_requests.specs.Requests.{block_count, first_of};
 
 use nesc_base::{Blocks, FnNo};
@@ -27,7 +28,7 @@ impl Request {
     pub fn blocks(&self) -> u32
         ensures count { result ≡ block_count self.now }
         ensures some { 1 ≤ result }
-        ensures within { result ≤ 64 }
+        ensures within { result ≤ most_in_request }
     {
         match self {
             Request::Read { into, .. } => into.len(),

@@ -1,5 +1,5 @@
 -- A function whose blocks were held is handled.
-use Rattle.std.proofs.Common.{◌≡◌, ℕ, List, [], ◌∷◌, length, take, None, Some, refl, sym, ap, ◌∙◌, arith}
+use Rattle.std.proofs.Common.{◌≡◌, ℕ, List, length, take, None, Some, refl, sym, ap, ◌∙◌, arith}
 use Rattle.std.proofs.lemmas.List.{take_all}
 use Rattle.std.proofs.lemmas.Option.{same_Some}
 use Rattle.nesc_base.specs.declared.numbers.FnNo.{FnNo}
@@ -9,20 +9,15 @@ use Rattle.file_model.specs.Files.{LeadsTo, holding}
 use Rattle.file_model.specs.Functions.{Attached, Function}
 use Rattle.file_model.specs.Handlings.{wanted}
 use Rattle.file_model.specs.declared.outcome.Handled.TheVariants as handled
-use Rattle.nesc_session.specs.FilesInMemory.{HoldsAll}
 use Rattle.nesc_session.specs.Serving.{HandlesFunction}
-
-leads-HoldsAll : (old : Files) (n : ℕ) (blocks : List ℕ) (new : Files) → HoldsAll old n blocks new → LeadsTo old (holding n blocks) new
-leads-HoldsAll old n [] new same = same
-leads-HoldsAll old n (v ∷ blocks) new holds = (new, holds, refl)
 
 module _ (f : FnNo) (old : Function) (files : Files) (attached : Attached) (on : old.attached ≡ Some attached) (miss : Miss) (waits : attached.waiting ≡ Some miss) where
   abbrev blocks : List ℕ
   blocks = wanted (file_at files attached.file) miss
 
-  pub HandlesFunction-held : (count : ℕ) (new : Function) (later : Files) → count ≡ length blocks → HoldsAll files attached.file blocks later → new ≡ record old { attached = Some (record attached { waiting = None }) }
+  pub HandlesFunction-held : (count : ℕ) (new : Function) (later : Files) → count ≡ length blocks → LeadsTo files (holding attached.file blocks) later → new ≡ record old { attached = Some (record attached { waiting = None }) }
       → HandlesFunction f old files (handled.Held count) new later
-  HandlesFunction-held count new later number holds result = record {
+  HandlesFunction-held count new later number leads result = record {
     changes = holding attached.file blocks;
     handles = record {
       attached = attached;
@@ -37,5 +32,5 @@ module _ (f : FnNo) (old : Function) (files : Files) (attached : Attached) (on :
         let same : attached ≡ other = same_Some _ _ (sym on ∙ on_other) in
         let same_miss : miss ≡ want = same_Some _ _ (sym waits ∙ ap (λ (a : Attached). a.waiting) same ∙ waits_other) in
         number ∙ (λ i. length (wanted (file_at files (same i).file) (same_miss i)));
-    leads = leads-HoldsAll files attached.file blocks later holds;
+    leads = leads;
   }

@@ -8,9 +8,9 @@ use Rattle.nesc_requests.specs.declared.host.HostAnswer.{HostAnswer}
 use Rattle.nesc_base.specs.Files.{File, Files, file_at}
 use Rattle.file_model.specs.Files.{Change, Changes, LeadsTo, create, hold, holds, put}
 use Rattle.file_model.specs.HostCommands.{FileStep}
-use Rattle.nesc_session.specs.FilesInMemory.{HoldsAll}
 use Rattle.nesc_session.specs.Room.{KeepsHeld}
-use Rattle.nesc_session.proofs.Puts.{is_some-insert, is_some-with_zeros}
+use Rattle.file_model.proofs.Writing.{IsSome-insert}
+use Rattle.nesc_session.proofs.Puts.{is_some-with_zeros}
 use Rattle.nesc_session.proofs.Written.{get-insert_at, same_number}
 
 -- whether the file of a number holds a block, by whether there is one
@@ -53,16 +53,12 @@ KeepsHeld-Changes old new (create n name length) creates =
 KeepsHeld-Changes old new (hold n blocks) holding =
     KeepsHeld-stands old n holding.file _ holding.stands holding.result (λ v. is_some-with_zeros holding.file.body blocks v)
 KeepsHeld-Changes old new (put n v block) puts =
-    KeepsHeld-stands old n puts.file _ puts.stands puts.result (λ at. is_some-insert puts.file.body v block at)
+    KeepsHeld-stands old n puts.file _ puts.stands puts.result (λ at. IsSome-insert puts.file.body v block at)
 
-KeepsHeld-LeadsTo : (old new : Files) (changes : List Change) → LeadsTo old changes new → KeepsHeld old new
+pub KeepsHeld-LeadsTo : (old new : Files) (changes : List Change) → LeadsTo old changes new → KeepsHeld old new
 KeepsHeld-LeadsTo old new [] same = KeepsHeld-same same
 KeepsHeld-LeadsTo old new (change ∷ changes) leads =
     KeepsHeld-then old leads.0 new (KeepsHeld-Changes old leads.0 change leads.1) (KeepsHeld-LeadsTo leads.0 new changes leads.2)
-
-pub KeepsHeld-HoldsAll : (old new : Files) (n : ℕ) (blocks : List ℕ) → HoldsAll old n blocks new → KeepsHeld old new
-KeepsHeld-HoldsAll old new n [] same = KeepsHeld-same same
-KeepsHeld-HoldsAll old new n (v ∷ blocks) holding = KeepsHeld-Changes old new (hold n (v ∷ blocks)) holding
 
 pub KeepsHeld-FileStep : (old new : Files) (command : HostCommand) (answer : HostAnswer) → FileStep old command answer new → KeepsHeld old new
 KeepsHeld-FileStep old new command answer step = KeepsHeld-LeadsTo old new step.changes step.leads

@@ -24,4 +24,3 @@ pub mod Standing
 pub mod Turns
 pub mod Wanted
 pub mod Written
-pub mod Zeros

@@ -1,9 +1,9 @@
 -- A put as the machine has it: the blocks that were not held are held with zeros first, and then each block is put.
-use Rattle.std.proofs.Common.{◌≡◌, ◌≢◌, ◌⊎◌, ⊎_elim, inl, inr, ℕ, zero, suc, ◌+◌, ◌<◌, ◌≤◌, Bool, true, false, cond, not, eqb, nat_eq, List, [], ◌∷◌, ◌++◌, length, Option, None, Some, IsSome, is_some, refl, sym, ap, subst, ◌∙◌, arith}
+use Rattle.std.proofs.Common.{◌≡◌, ◌≢◌, ◌⊎◌, ⊎_elim, inl, inr, ℕ, zero, suc, ◌+◌, ◌<◌, ◌≤◌, Bool, true, false, cond, not, eqb, List, [], ◌∷◌, ◌++◌, length, Option, Some, IsSome, IsSomeAnd, is_some, refl, sym, ap, subst, ◌∙◌, arith}
 use Rattle.std.proofs.lemmas.Bool.{false≢true, cases_eq, cases_lt}
 use Rattle.std.proofs.lemmas.Bool.Decides.{nat_tests}
 use Rattle.std.proofs.lemmas.Option.{same_Some}
-use Rattle.std.specs.List.{filter, range_with_len, AllByRecursion, IsDistinct}
+use Rattle.std.specs.List.{filter, range_with_len, AllByRecursion}
 use Rattle.std.specs.Cmp.{nat_cmp_total}
 use Rattle.std.specs.FinMap.{get, insert, nat_cmp-IsAntisymmetric, same_map}
 use Rattle.nesc_base.specs.declared.block.Block.{Block}
@@ -13,55 +13,24 @@ use Rattle.nesc_requests.specs.declared.host.HostCommand.TheVariants.{Put}
 use Rattle.nesc_requests.specs.declared.host.HostAnswer.TheVariants.{Ok}
 use Rattle.file_model.specs.Files.{HasName, Holds, LeadsTo, Puts, holding, holds, puts_from, unheld, with_zeros}
 use Rattle.file_model.specs.HostCommands.{FileStep}
-use Rattle.file_model.proofs.Writing.{leads_holding, leads_then}
+use Rattle.file_model.specs.PlainFile.{with_held}
+use Rattle.file_model.proofs.Held.{AreHeld-Holds, All-filter_range, Holds-with_held}
+use Rattle.file_model.proofs.Writing.{IsSome-insert, leads_holding, leads_then}
 use Rattle.nesc_session.specs.FilesInMemory.{with_blocks, WritesBlocks}
 use Rattle.nesc_session.proofs.Numbered.{eqb_apart}
 use Rattle.nesc_session.proofs.Standing.{file_at-stands}
 use Rattle.nesc_base.proofs.Maps.{get-insert_same, insert_there, insert-insert}
 use Rattle.nesc_session.proofs.Written.{get-insert_at}
 
--- Those of a run of numbers that pass a test
-
-module _ (test : ℕ → Bool) where
-  -- what holds of each of the run that passes
-  pub All-range : (P : ℕ → Type 0) (v n : ℕ) → ((at : ℕ) → v ≤ at → at < v + n → test at ≡ true → P at) → AllByRecursion P (filter test (range_with_len v n))
-  All-range P v zero each = tt
-  All-range P v (suc n) each = at (test v) refl (All-range P (v + 1) n (λ at low high passes. each at (omega arith) (omega arith) passes))
-    where
-      at : (b : Bool) → test v ≡ b → AllByRecursion P (filter test (range_with_len (v + 1) n)) → AllByRecursion P (cond b (v ∷ filter test (range_with_len (v + 1) n)) (filter test (range_with_len (v + 1) n)))
-      at true e rest = (each v (omega arith) (omega arith) e, rest)
-      at false e rest = rest
-
-  -- none stands there twice
-  pub IsDistinct-range : (v n : ℕ) → IsDistinct nat_eq (filter test (range_with_len v n))
-  unfolding IsDistinct
-  IsDistinct-range v zero = tt
-  IsDistinct-range v (suc n) = at (test v) (IsDistinct-range (v + 1) n)
-    where
-      at : (b : Bool) → IsDistinct nat_eq (filter test (range_with_len (v + 1) n)) → IsDistinct nat_eq (cond b (v ∷ filter test (range_with_len (v + 1) n)) (filter test (range_with_len (v + 1) n)))
-      at true rest = (All-range (λ at. nat_eq v at ≡ false) (v + 1) n (λ at low high passes. eqb_apart v at (omega arith)), rest)
-      at false rest = rest
-
-pub none_from : {A : Type 0} (o : Option A) → not (is_some o) ≡ true → o ≡ None
-none_from None none = refl
-none_from (Some x) none = absurd (false≢true none)
-
 -- Zeros
 
 below_other : (q v : ℕ) → q < v + 1 → eqb q v ≡ false → q < v
 below_other q v low apart = grind (arith, nat_tests)
 
-pub is_some-insert : (body : Body) (v : ℕ) (block : Block) (q : ℕ) → IsSome (get body q) → IsSome (get (insert body v block) q)
-is_some-insert body v block q some = ap is_some (get-insert_at body v block q) ∙ at (eqb q v)
-  where
-    at : (b : Bool) → is_some (cond b (Some block) (get body q)) ≡ true
-    at true = refl
-    at false = some
-
 -- what was held is held still
 pub is_some-with_zeros : (body : Body) (blocks : List ℕ) (q : ℕ) → IsSome (get body q) → IsSome (get (with_zeros body blocks) q)
 is_some-with_zeros body [] q some = some
-is_some-with_zeros body (v ∷ blocks) q some = is_some-with_zeros (insert body v zero_block) blocks q (is_some-insert body v zero_block q some)
+is_some-with_zeros body (v ∷ blocks) q some = is_some-with_zeros (insert body v zero_block) blocks q (IsSome-insert body v zero_block q some)
 
 -- nothing else changes
 pub get-with_zeros_other : (body : Body) (blocks : List ℕ) (q : ℕ) → AllByRecursion (λ at. q ≢ at) blocks → get (with_zeros body blocks) q ≡ get body q
@@ -106,7 +75,7 @@ puts-with_blocks files n v (b ∷ bs) file stands held = (
   record { file = file; stands = stands; held = held v (omega arith) (omega arith); result = refl },
   subst (LeadsTo next (puts_from n (v + 1) bs)) (insert-insert files n with_block _)
       (puts-with_blocks next n (v + 1) bs with_block (get-insert_same files n with_block)
-      (λ q low high. is_some-insert file.body v b q (held q (omega arith) (omega arith)))),
+      (λ q low high. IsSome-insert file.body v b q (held q (omega arith) (omega arith)))),
 )
   where
     with_block : File
@@ -125,27 +94,18 @@ FileStep-WritesBlocks {old} {new} {n} {file} name v blocks named within writes =
 }
   where
     zeros : File
-    zeros = record file { body = with_zeros file.body (unheld file v (length blocks)) }
+    zeros = with_held file v (length blocks)
 
     holds_zeros : Holds old n (unheld file v (length blocks)) (insert old n zeros)
-    holds_zeros = record {
-      file = file;
-      stands = named.stands;
-      below = All-range (λ at. not (holds file at)) (λ at. at < file.length) v (length blocks) (λ at low high passes. omega arith);
-      fresh = All-range (λ at. not (holds file at)) (λ at. get file.body at ≡ None) v (length blocks) (λ at low high passes. none_from (get file.body at) passes);
-      apart = IsDistinct-range (λ at. not (holds file at)) v (length blocks);
-      result = refl;
-    }
+    holds_zeros = Holds-with_held old n file v (length blocks) named.stands (λ k low high. omega arith)
 
     is_held : (q : ℕ) → v ≤ q → q < v + length blocks → IsSome (get zeros.body q)
-    is_held q low high = at (holds file q) refl
-      where
-        at : (b : Bool) → holds file q ≡ b → IsSome (get zeros.body q)
-        at true e = is_some-with_zeros file.body (unheld file v (length blocks)) q e
-        at false e = is_some-with_zeros_range (λ at. not (holds file at)) file.body v (length blocks) q low high (ap not e)
+    is_held q low high =
+        subst (λ (o : Option File). IsSomeAnd o (λ f. IsSome (get f.body q))) (get-insert_same old n zeros)
+        (AreHeld-Holds old n file v (length blocks) (insert old n zeros) named.stands holds_zeros q low high)
 
     outside : (q : ℕ) → (q < v) ⊎ (v + length blocks ≤ q) → get zeros.body q ≡ get file.body q
-    outside q out = get-with_zeros_other file.body (unheld file v (length blocks)) q (All-range (λ at. not (holds file at)) (λ at. q ≢ at) v (length blocks) (λ at low high passes. ⊎_elim (λ below. omega arith) (λ above. omega arith) out))
+    outside q out = get-with_zeros_other file.body (unheld file v (length blocks)) q (All-filter_range (λ at. q ≢ at) (λ at. not (holds file at)) v (length blocks) (λ at low high passes. ⊎_elim (λ below. omega arith) (λ above. omega arith) out))
 
     same_file : file ≡ writes.file
     same_file = same_Some _ _ (sym named.stands ∙ writes.stands)

@@ -1,8 +1,9 @@
--- The room that all functions and all that is left may need, where one function or one list changes.
-use Rattle.std.proofs.Common.{◌≡◌, ℕ, suc, zero, ◌+◌, ◌≤◌, List, [], ◌∷◌, Some, slice_get, slice_set, replicate, ap, ◌∙◌, arith}
+-- The room that all functions may need, where one of them changes, and whether the machine is still ready.
+use Rattle.std.proofs.Common.{◌≡◌, ℕ, suc, zero, ◌+◌, ◌<◌, ◌≤◌, List, [], ◌∷◌, length, Some, slice_get, slice_index_or, slice_set, replicate, sym, ap, ◌∙◌, arith}
+use Rattle.std.proofs.lemmas.List.{length-set}
 use Rattle.std.proofs.lemmas.List.Folds.{sum_by-replicate}
 use Rattle.std.proofs.lemmas.List.Sums.{sum_by-cons}
-use Rattle.std.proofs.lemmas.Option.{none-some, same_Some}
+use Rattle.std.proofs.lemmas.Option.{none-some, same_Some, slice_get-get_or}
 use Rattle.std.specs.List.{sum_by}
 use Rattle.nesc_requests.specs.declared.request.Request.{Request}
 use Rattle.nesc_base.specs.Files.{Files}
@@ -10,7 +11,9 @@ use Rattle.file_model.specs.Functions.{Function, off}
 use Rattle.file_model.specs.Submissions.{Submits, queueing}
 use Rattle.file_model.specs.declared.outcome.Answer.{Answer}
 use Rattle.file_model.specs.declared.outcome.Answer.TheVariants as answer
-use Rattle.nesc_session.specs.Room.{KeepsHeld, room_of, room_submitted}
+use Rattle.nesc_session.specs.Room.{KeepsHeld, room_of, room_submitted, room_waited_for}
+use Rattle.nesc_session.specs.Session.{IsReadyFor}
+use Rattle.nesc_session.specs.declared.session.Session.{Session}
 use Rattle.nesc_session.proofs.RoomKept.{room_of-keeps}
 use Rattle.nesc_session.proofs.RoomQueued.{room_of-queueing}
 
@@ -53,3 +56,23 @@ room_of-submitted most files function request (answer.Queued id) new queues =
 room_of-submitted most files function request (answer.Full back) new full = let same : room_of files new ≡ room_of files function = ap (room_of files) full.2 in omega (arith, same)
 room_of-submitted most files function request (answer.Off back) new off = let same : room_of files new ≡ room_of files function = ap (room_of files) off.2 in omega (arith, same)
 room_of-submitted most files function request other new submits = absurd submits
+
+-- The machine
+
+-- it is still ready where one of its functions changes, if what that one needs, with what there is to be ready for, grows no
+-- more than the room
+pub IsReadyFor-changes : (old : Session) {new : Session} {had more : ℕ} (index : ℕ) {one : Function} (other : Function) → index < length old.functions.items → one ≡ slice_index_or old.functions.items index one
+    → new.functions.items ≡ slice_set old.functions.items index other → KeepsHeld old.files.files new.files.files
+    → room_of new.files.files other + old.files.room + more ≤ room_of old.files.files one + new.files.room + had
+    → new.last ≤ length old.functions.items → new.setting ≡ old.setting → IsReadyFor had old → IsReadyFor more new
+IsReadyFor-changes old {new} {had} {more} index {one} other within is changed keeps needs last same_setting before =
+    let item : slice_get old.functions.items index ≡ Some one = slice_get-get_or old.functions.items index one within ∙ ap Some (sym is) in
+    let less = sum-changes old.files.files new.files.files old.functions.items index one other (new.files.room + had) (old.files.room + more) keeps item (omega (arith, needs)) in
+    let all = ap (room_waited_for new.files.files) changed in
+    let long = ap length changed ∙ length-set old.functions.items index other in
+    record {
+      room = omega (arith, all, less, before.room);
+      last = omega (arith, long, last);
+      few = omega (arith, long, before.few);
+      queue = rw same_setting before.queue;
+    }

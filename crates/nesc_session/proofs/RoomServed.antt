@@ -1,5 +1,5 @@
 -- A function that is served needs no more room than before.
-use Rattle.std.proofs.Common.{◌≡◌, ℕ, zero, suc, ◌+◌, ◌-◌, ◌≤◌, Bool, true, false, not, cond, List, ◌∷◌, length, Option, None, Some, sym, ap, subst, ◌∙◌, arith}
+use Rattle.std.proofs.Common.{◌≡◌, ℕ, zero, suc, ◌+◌, ◌-◌, ◌≤◌, Bool, true, false, not, cond, List, ◌∷◌, length, Option, None, Some, refl, sym, ap, subst, ◌∙◌, arith}
 use Rattle.nesc_base.specs.declared.numbers.FileNo.{FileNo}
 use Rattle.nesc_requests.specs.declared.request.Miss.{Miss}
 use Rattle.nesc_requests.specs.declared.request.Queued.{Queued}
@@ -8,11 +8,11 @@ use Rattle.nesc_requests.specs.declared.request.Request.TheVariants.{Read, Write
 use Rattle.nesc_base.specs.Files.{File, Files, file_at}
 use Rattle.file_model.specs.Files.{holds, unheld}
 use Rattle.file_model.specs.declared.outcome.How.{How}
-use Rattle.file_model.specs.declared.outcome.How.TheVariants.{Hole, Range, Walk}
 use Rattle.nesc_session.specs.FunctionInMemory.{attached_in}
 use Rattle.nesc_session.specs.Room.{KeepsHeld, room_at, room_attached}
 use Rattle.file_model.specs.Ticks.{Reaches}
 use Rattle.nesc_session.proofs.RoomKept.{room_at-keeps, room_in-keeps}
+use Rattle.nesc_session.proofs.Served.{reached-keeps}
 
 one_more : (v : ℕ) (rest : List ℕ) (b : Bool) → length rest ≤ length (cond b (v ∷ rest) rest)
 one_more v rest true = omega arith
@@ -36,12 +36,7 @@ room_at-next file done (Write v from) =
 -- what a request needs does not change where one of its blocks is reached
 pub room_at-reached : (file : File) (v done : ℕ) (request : Request) (how : How) (after : Request) → Reaches file v done request how after
     → (other : File) (k : ℕ) → room_at other k after ≡ room_at other k request
-room_at-reached file v done (Read at into) (Walk fetched) after reached other k = ap (room_at other k) reached.1
-room_at-reached file v done (Read at into) (Hole fetched) after reached other k = ap (room_at other k) reached.1
-room_at-reached file v done (Read at into) Range after reached other k = absurd reached
-room_at-reached file v done (Write at from) (Walk fetched) after reached other k = ap (room_at other k) reached.1
-room_at-reached file v done (Write at from) (Hole fetched) after reached other k = absurd reached
-room_at-reached file v done (Write at from) Range after reached other k = absurd reached
+room_at-reached file v done request how after reached other k = reached-keeps (room_at other k) (λ at into j block. refl) file v done request how after reached
 
 module _ (old new : Files) (keeps : KeepsHeld old new) (no : Option FileNo) (queue rest : List Queued) (head : Queued) (split : queue ≡ head ∷ rest) (done : ℕ) (waiting : Option Miss) where
   ended_in : (no : Option FileNo) → room_attached new (attached_in no rest 0 waiting) ≤ room_attached old (attached_in no (head ∷ rest) done waiting)

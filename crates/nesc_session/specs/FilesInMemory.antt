@@ -10,7 +10,7 @@ use Rattle.nesc_base.specs.Files.{Body, File, Files}
 use Rattle.nesc_base.specs.Numbered.{map_from}
 use Rattle.nesc_requests.specs.Script.{numbered}
 use Rattle.image_layout.specs.declared.table.TableEntry.{TableEntry}
-use Rattle.file_model.specs.Files.{Changes, HasName, IsUnnamed, hold}
+use Rattle.file_model.specs.Files.{HasName, IsUnnamed}
 use Rattle.file_model.specs.HostCommands.{IsOutside}
 use Rattle.nesc_session.specs.declared.files.held.Place.{Place}
 use Rattle.file_model.specs.Codes.{coded_files}
@@ -76,8 +76,3 @@ pub record WritesBlocks (old : Files) (n v : ℕ) (blocks : List Block) (new : F
   pub file : File
   pub stands : get old n ≡ Some file
   pub result : new ≡ insert old n (record file { body = with_blocks file.body v blocks })
-
--- the file comes to hold these blocks, which may be none
-abbrev pub HoldsAll : Files → ℕ → List ℕ → Files → Type 0
-HoldsAll old n [] new = new ≡ old
-HoldsAll old n (v ∷ blocks) new = Changes old (hold n (v ∷ blocks)) new

@@ -3,13 +3,13 @@ ghost use Rattle.std.specs.Prelude.{◌≡◌, ◌+◌, ◌<◌, ◌≤◌, IfOk
 ghost use Rattle.std.specs.Option.{option_copied};
 ghost use Rattle.std.specs.FinMap.{empty, get};
 ghost use Rattle.nesc_base.specs.Files.{File, file_at, most_files};
-ghost use Rattle.file_model.specs.Files.{Changes, HasName, IsUnnamed, holds, put, read_from};
+ghost use Rattle.file_model.specs.Files.{Changes, HasName, IsUnnamed, LeadsTo, holding, holds, put, read_from};
 ghost use Rattle.file_model.specs.Handlings.{wanted};
 ghost use Rattle.nesc_requests.specs.declared.request.Kind.TheVariants.{Unmapped};
 ghost use Rattle.nesc_session.specs.Room.{KeepsHeld};
 ghost use Rattle.file_model.specs.HostCommands.{FileStep};
 ghost use Rattle.nesc_base.specs.Block.{zero_block};
-ghost use Rattle.nesc_session.specs.FilesInMemory.{HoldsAll, IsInside, Refuses, WritesBlocks, entry_at, files_of, has_name};
+ghost use Rattle.nesc_session.specs.FilesInMemory.{IsInside, Refuses, WritesBlocks, entry_at, files_of, has_name};
 
 mod held;
 
@@ -130,7 +130,7 @@ impl Files {
     pub fn hold(&mut self, file: FileNo, v: u32, n: u32) -> u32
         requires within { v + n < 2 ^ 32 }
         requires room { length (wanted (file_at self.old.files file.0) (record { v = v; n = n; kind = Unmapped })) ≤ self.old.room }
-        ensures held { HoldsAll self.old.files file.0 (wanted (file_at self.old.files file.0) (record { v = v; n = n; kind = Unmapped })) self.new.files }
+        ensures held { LeadsTo self.old.files (holding file.0 (wanted (file_at self.old.files file.0) (record { v = v; n = n; kind = Unmapped }))) self.new.files }
         ensures count { result ≡ length (wanted (file_at self.old.files file.0) (record { v = v; n = n; kind = Unmapped })) }
         ensures room { self.new.room + result ≡ self.old.room }
         ensures keeps { KeepsHeld self.old.files self.new.files }

@@ -8,11 +8,12 @@ use Rattle.toml.specs.Data.{Data, string, integer, float, boolean, datetime, arr
 use Rattle.nesc_base.specs.Block.{zero_block}
 use Rattle.nesc_base.specs.BlockText.{block_of_text}
 use Rattle.nesc_base.specs.Files.{longest_file}
-use Rattle.nesc_base.specs.declared.blocks.TheConstants.{MOST_IN_REQUEST}
+use Rattle.nesc_base.specs.Blocks.{most_in_request}
+use Rattle.nesc_base.specs.declared.block.Block.{Block}
 use Rattle.nesc_requests.specs.Requests.{IsNumbered}
 use Rattle.nesc_requests.specs.declared.request.Request.{Request}
 use Rattle.script_lang.specs.declared.words.Separators.TheVariants.{Spaces}
-use Rattle.script_lang.specs.CommandsText.{up_to, number_to, from_one, block_number_of, count_of, read_blocks, read_of, write_of, request_of_words, request_of, is_trimmed, strings_of, each_of_items, each_at}
+use Rattle.script_lang.specs.CommandsText.{up_to, number_to, from_one, block_number_of, count_of, read_blocks, blocks_at_of, zeros_at_of, read_of, write_of, request_of_words, request_of, is_trimmed, strings_of, each_of_items, each_at}
 use Rattle.script_lang.specs.Words.{each, words_of, ◌>>=◌}
 
 -- what holds after the second step, if it holds wherever that begins
@@ -39,9 +40,9 @@ number-within : (most : ℕ) (text : List ℕ) → IfSome (number_to most text) 
 number-within most text =
     if_some-when (λ n. n ≤ most) (nat_le (length text) 10) (number_of text >>= up_to most) (λ is. if_some-any (λ n. n ≤ most) (number_of text) (up_to most) (up_to-within most))
 
-count-within : (text : List ℕ) → IfSome (count_of text) (λ n. n ≤ MOST_IN_REQUEST)
+count-within : (text : List ℕ) → IfSome (count_of text) (λ n. n ≤ most_in_request)
 count-within text =
-    if_some-then (λ n. n ≤ MOST_IN_REQUEST) (λ n. n ≤ MOST_IN_REQUEST) (number_to MOST_IN_REQUEST text) from_one (number-within MOST_IN_REQUEST text) (λ n within. if_some-when (λ k. k ≤ MOST_IN_REQUEST) (nat_le 1 n) (Some n) (λ is. within))
+    if_some-then (λ n. n ≤ most_in_request) (λ n. n ≤ most_in_request) (number_to most_in_request text) from_one (number-within most_in_request text) (λ n within. if_some-when (λ k. k ≤ most_in_request) (nat_le 1 n) (Some n) (λ is. within))
 
 -- `each` gives as many as it gets
 one_more : {B : Type 0} (n : ℕ) (y : Option B) (ys : Option (List B)) → IfSome ys (λ zs. length zs ≡ n) → IfSome (y >>= λ z. ys >>= λ zs. Some (z ∷ zs)) (λ zs. length zs ≡ suc n)
@@ -53,30 +54,40 @@ each-length : {A B : Type 0} (f : A → Option B) (xs : List A) → IfSome (each
 each-length f [] = refl
 each-length f (x ∷ xs) = one_more (length xs) (f x) (each f xs) (each-length f xs)
 
-le_from_test : (b : Bool) (n : ℕ) → (b && nat_le n MOST_IN_REQUEST) ≡ true → n ≤ MOST_IN_REQUEST
+le_from_test : (b : Bool) (n : ℕ) → (b && nat_le n most_in_request) ≡ true → n ≤ most_in_request
 le_from_test true n is = grind (arith, nat_tests)
 le_from_test false n is = cc
 
-blocks-within : (texts : List (List ℕ)) → IfSome (read_blocks texts) (λ blocks. length blocks ≤ MOST_IN_REQUEST)
+blocks-within : (texts : List (List ℕ)) → IfSome (read_blocks texts) (λ blocks. length blocks ≤ most_in_request)
 blocks-within texts =
-    if_some-when (λ blocks. length blocks ≤ MOST_IN_REQUEST) (nat_le 1 (length texts) && nat_le (length texts) MOST_IN_REQUEST) (each block_of_text texts)
+    if_some-when (λ blocks. length blocks ≤ most_in_request) (nat_le 1 (length texts) && nat_le (length texts) most_in_request) (each block_of_text texts)
     (λ is.
-    let few : length texts ≤ MOST_IN_REQUEST = le_from_test (nat_le 1 (length texts)) (length texts) is in
-    if_some-weaker (λ blocks. length blocks ≡ length texts) (λ blocks. length blocks ≤ MOST_IN_REQUEST) (each block_of_text texts) (each-length block_of_text texts) (λ blocks same. omega arith))
+    let few : length texts ≤ most_in_request = le_from_test (nat_le 1 (length texts)) (length texts) is in
+    if_some-weaker (λ blocks. length blocks ≡ length texts) (λ blocks. length blocks ≤ most_in_request) (each block_of_text texts) (each-length block_of_text texts) (λ blocks same. omega arith))
+
+-- a place, and no more blocks than a request has
+abbrev IsRun : ℕ × List Block → Type 0
+IsRun run = (run.0 ≤ longest_file - 1) × (length run.1 ≤ most_in_request)
+
+zeros-fit : (words : List (List ℕ)) → IfSome (zeros_at_of words) IsRun
+zeros-fit [] = tt
+zeros-fit (v ∷ []) = tt
+zeros-fit (v ∷ n ∷ []) =
+    if_some-then (λ v. v ≤ longest_file - 1) IsRun (block_number_of v) _ (number-within (longest_file - 1) v)
+    (λ v low. if_some-then (λ n. n ≤ most_in_request) IsRun (count_of n) _ (count-within n) (λ n few. (low, omega (arith, length-replicate n zero_block))))
+zeros-fit (v ∷ n ∷ x ∷ more) = tt
+
+blocks-fit : (words : List (List ℕ)) → IfSome (blocks_at_of words) IsRun
+blocks-fit [] = tt
+blocks-fit (v ∷ texts) =
+    if_some-then (λ v. v ≤ longest_file - 1) IsRun (block_number_of v) _ (number-within (longest_file - 1) v)
+    (λ v low. if_some-then (λ blocks. length blocks ≤ most_in_request) IsRun (read_blocks texts) _ (blocks-within texts) (λ blocks few. (low, few)))
 
 read-fits : (words : List (List ℕ)) → IfSome (read_of words) IsNumbered
-read-fits [] = tt
-read-fits (v ∷ []) = tt
-read-fits (v ∷ n ∷ []) =
-    if_some-then (λ v. v ≤ longest_file - 1) IsNumbered (block_number_of v) _ (number-within (longest_file - 1) v)
-    (λ v low. if_some-then (λ n. n ≤ MOST_IN_REQUEST) IsNumbered (count_of n) _ (count-within n) (λ n few. let long = length-replicate n zero_block in omega arith))
-read-fits (v ∷ n ∷ x ∷ more) = tt
+read-fits words = if_some-then IsRun IsNumbered (zeros_at_of words) _ (zeros-fit words) (λ run is. let low = is.0 in let few = is.1 in omega arith)
 
 write-fits : (words : List (List ℕ)) → IfSome (write_of words) IsNumbered
-write-fits [] = tt
-write-fits (v ∷ texts) =
-    if_some-then (λ v. v ≤ longest_file - 1) IsNumbered (block_number_of v) _ (number-within (longest_file - 1) v)
-    (λ v low. if_some-then (λ blocks. length blocks ≤ MOST_IN_REQUEST) IsNumbered (read_blocks texts) _ (blocks-within texts) (λ blocks few. omega arith))
+write-fits words = if_some-then IsRun IsNumbered (blocks_at_of words) _ (blocks-fit words) (λ run is. let low = is.0 in let few = is.1 in omega arith)
 
 either-fits : (b : Bool) (x y : Option Request) → IfSome x IsNumbered → IfSome y IsNumbered → IfSome (if b then x else y) IsNumbered
 either-fits true x y p q = p

@@ -13,7 +13,7 @@ use Rattle.nesc_requests.specs.Machine.{default_machine}
 use Rattle.nesc_requests.specs.Requests as requests
 use Rattle.nesc_requests.specs.Script.{Script}
 use Rattle.nesc_base.specs.declared.block.Block.{Block}
-use Rattle.nesc_base.specs.declared.blocks.TheConstants.{MOST_IN_REQUEST}
+use Rattle.nesc_base.specs.Blocks.{most_in_request}
 use Rattle.nesc_requests.specs.declared.host.HostCommand.{HostCommand}
 use Rattle.nesc_base.specs.declared.numbers.FnNo.{FnNo}
 use Rattle.nesc_requests.specs.declared.request.Request.{Request}
@@ -43,11 +43,11 @@ block_number_of text = number_to (longest_file - 1) text
 
 -- a number of blocks, 1 to 64
 abbrev pub count_of : List ℕ → Option ℕ
-count_of text = number_from_one MOST_IN_REQUEST text
+count_of text = number_from_one most_in_request text
 
 -- 1 to 64 blocks
 abbrev pub read_blocks : List (List ℕ) → Option (List Block)
-read_blocks texts = if nat_le 1 (length texts) && nat_le (length texts) MOST_IN_REQUEST then each block_of_text texts else None
+read_blocks texts = if nat_le 1 (length texts) && nat_le (length texts) most_in_request then each block_of_text texts else None
 
 -- NAME LENGTH
 abbrev pub create_of : List (List ℕ) → Option HostCommand
@@ -57,22 +57,36 @@ create_of (name ∷ len ∷ []) = do
   Some (Create name len)
 create_of words = None
 
--- NAME V BLOCK..
-abbrev pub put_of : List (List ℕ) → Option HostCommand
-put_of (name ∷ v ∷ blocks) = do
-  name ← name_of name
+-- V BLOCK.., a place in a file and the blocks from there on
+abbrev pub blocks_at_of : List (List ℕ) → Option (ℕ × List Block)
+blocks_at_of (v ∷ blocks) = do
   v ← block_number_of v
   blocks ← read_blocks blocks
-  Some (Put name v blocks)
-put_of words = None
+  Some (v, blocks)
+blocks_at_of words = None
 
--- NAME V N, with a buffer of N blocks of zeros
-abbrev pub get_of : List (List ℕ) → Option HostCommand
-get_of (name ∷ v ∷ n ∷ []) = do
-  name ← name_of name
+-- V N, with a buffer of N blocks of zeros
+abbrev pub zeros_at_of : List (List ℕ) → Option (ℕ × List Block)
+zeros_at_of (v ∷ n ∷ []) = do
   v ← block_number_of v
   n ← count_of n
-  Some (Get name v (replicate n zero_block))
+  Some (v, replicate n zero_block)
+zeros_at_of words = None
+
+-- NAME, and the blocks to put
+abbrev pub put_of : List (List ℕ) → Option HostCommand
+put_of (name ∷ words) = do
+  name ← name_of name
+  run ← blocks_at_of words
+  Some (Put name run.0 run.1)
+put_of words = None
+
+-- NAME, and the buffer to fill
+abbrev pub get_of : List (List ℕ) → Option HostCommand
+get_of (name ∷ words) = do
+  name ← name_of name
+  run ← zeros_at_of words
+  Some (Get name run.0 run.1)
 get_of words = None
 
 -- the number of a function
@@ -97,21 +111,11 @@ command_of_words (first ∷ words) =
     else if bytes_eq first (codes "attach") then attach_of words
     else None
 
--- V N, with a buffer of N blocks of zeros
 abbrev pub read_of : List (List ℕ) → Option Request
-read_of (v ∷ n ∷ []) = do
-  v ← block_number_of v
-  n ← count_of n
-  Some (Read v (replicate n zero_block))
-read_of words = None
+read_of words = zeros_at_of words >>= λ run. Some (Read run.0 run.1)
 
--- V BLOCK..
 abbrev pub write_of : List (List ℕ) → Option Request
-write_of (v ∷ blocks) = do
-  v ← block_number_of v
-  blocks ← read_blocks blocks
-  Some (Write v blocks)
-write_of words = None
+write_of words = blocks_at_of words >>= λ run. Some (Write run.0 run.1)
 
 -- a guest's request of these words
 abbrev pub request_of_words : List (List ℕ) → Option Request

@@ -1,6 +1,6 @@
 ghost use Rattle.std.specs.Prelude.{◌≡◌, ◌≤◌, ◌∷◌, map, option_map, replicate, IfOk, IfErr, IfSome};
 ghost use Rattle.nesc_base.specs.Block.{zero_block};
-ghost use Rattle.script_lang.specs.CommandsText.{number_to, number_from_one, block_number_of, function_of, read_blocks, count_of, create_of, get_of, put_of, attach_of, read_of, write_of, command_of_words, request_of_words, host_command_of, request_of, is_trimmed};
+ghost use Rattle.script_lang.specs.CommandsText.{number_to, number_from_one, block_number_of, function_of, read_blocks, count_of, blocks_at_of, zeros_at_of, create_of, get_of, put_of, attach_of, read_of, write_of, command_of_words, request_of_words, host_command_of, request_of, is_trimmed};
 ghost use Rattle.script_lang.specs.Reads.{Reads};
 ghost use Rattle.script_lang.specs.Words.{words_of};
 ghost use Rattle.script_lang.specs.declared.words.Separators.TheVariants.{Spaces};
@@ -85,27 +85,47 @@ fn read_blocks(alloc: Global, texts: &[&[u8]]) -> Result<Blocks, InputFault>
     Ok(blocks)
 }
 
+/// A place in a file, and the blocks from there on.
+fn blocks_at_of(alloc: Global, words: &[&[u8]]) -> Result<(u32, Blocks), InputFault>
+    ensures { Reads result (blocks_at_of (map (λ word. word.now) words.now)) }
+{
+    let [v, texts @ ..] = words else {
+        return Err(InputFault::Refused);
+    };
+    let v = block_number_of(v)?;
+    Ok((v, read_blocks(alloc, texts)?))
+}
+
+/// A place in a file, and a buffer for as many blocks from there on as are asked for.
+fn zeros_at_of(alloc: Global, words: &[&[u8]]) -> Result<(u32, Blocks), InputFault>
+    ensures { Reads result (zeros_at_of (map (λ word. word.now) words.now)) }
+{
+    let [v, n] = words else {
+        return Err(InputFault::Refused);
+    };
+    let v = block_number_of(v)?;
+    Ok((v, zeros_of(alloc, n)?))
+}
+
 fn put_of(alloc: Global, words: &[&[u8]]) -> Result<HostCommand, InputFault>
     ensures { Reads result (put_of (map (λ word. word.now) words.now)) }
 {
-    let [name, v, texts @ ..] = words else {
+    let [name, words @ ..] = words else {
         return Err(InputFault::Refused);
     };
     let name = Name::read(name).ok_or(InputFault::Refused)?;
-    let v = block_number_of(v)?;
-    let blocks = read_blocks(alloc, texts)?;
+    let (v, blocks) = blocks_at_of(alloc, words)?;
     Ok(HostCommand::Put { name, v, blocks })
 }
 
 fn get_of(alloc: Global, words: &[&[u8]]) -> Result<HostCommand, InputFault>
     ensures { Reads result (get_of (map (λ word. word.now) words.now)) }
 {
-    let [name, v, n] = words else {
+    let [name, words @ ..] = words else {
         return Err(InputFault::Refused);
     };
     let name = Name::read(name).ok_or(InputFault::Refused)?;
-    let v = block_number_of(v)?;
-    let into = zeros_of(alloc, n)?;
+    let (v, into) = zeros_at_of(alloc, words)?;
     Ok(HostCommand::Get { name, v, into })
 }
 
@@ -121,22 +141,14 @@ fn attach_of(words: &[&[u8]]) -> Option<HostCommand>
 fn read_of(alloc: Global, words: &[&[u8]]) -> Result<Request, InputFault>
     ensures { Reads result (read_of (map (λ word. word.now) words.now)) }
 {
-    let [v, n] = words else {
-        return Err(InputFault::Refused);
-    };
-    let v = block_number_of(v)?;
-    let into = zeros_of(alloc, n)?;
+    let (v, into) = zeros_at_of(alloc, words)?;
     Ok(Request::Read { v, into })
 }
 
 fn write_of(alloc: Global, words: &[&[u8]]) -> Result<Request, InputFault>
     ensures { Reads result (write_of (map (λ word. word.now) words.now)) }
 {
-    let [v, texts @ ..] = words else {
-        return Err(InputFault::Refused);
-    };
-    let v = block_number_of(v)?;
-    let from = read_blocks(alloc, texts)?;
+    let (v, from) = blocks_at_of(alloc, words)?;
     Ok(Request::Write { v, from })
 }
 

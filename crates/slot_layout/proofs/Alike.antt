@@ -11,7 +11,7 @@ use Rattle.nesc_base.specs.declared.block.Block.{Block}
 use Rattle.nesc_base.specs.declared.geometry.Geometry.{Geometry}
 use Rattle.nesc_base.specs.Block.{zero_block}
 use Rattle.nesc_base.specs.Geometry.{list_blocks, slot_at, slot_blocks, slot_room, table_at, total}
-use Rattle.slot_layout.specs.Gate.{is_open}
+use Rattle.slot_layout.specs.Gate.{is_open, open_gate}
 use Rattle.slot_layout.specs.Slots.{AreAlike, AreClosed, AreReplayed, IsBeside, LaidOver, Lays, StandsFor, block_at, blocks_from, gate, laid_over, list_at, list_of, slot_data}
 use Rattle.slot_layout.specs.Targets.{AreTargets, IsListOf}
 use Rattle.nesc_base.proofs.Differing.{same_by_places, slice_get-set_other, slice_get-set_same}
@@ -49,6 +49,11 @@ module _ (geometry : Geometry) (one other : List Block) (alike : AreAlike geomet
       omega arith
 
 -- Closed gates
+
+-- a gate of zeros is closed
+pub zero_gate : is_open zero_block ≡ false
+unfolding is_open open_gate zero_block
+zero_gate = refl
 
 -- where the first gate is closed no slot is to be replayed
 pub none_replayed : (geometry : Geometry) (image : List Block) (n : ℕ) → is_open (gate geometry image 1) ≡ false → AreReplayed geometry image n → n ≡ 0

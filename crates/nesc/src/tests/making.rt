@@ -1,8 +1,8 @@
 use crate::tests::{Told, tell_over};
-use nesc_base::{Block, Disk};
+use nesc_base::{Block, Disk, NoMemory};
 use nesc_fakes::MemDisk;
 use nesc_monitor::Status;
-use std::alloc::{AllocError, Global};
+use std::alloc::Global;
 use std::test::Fail;
 
 /// What `make` answers over a disk of so many blocks, none of them zeros, of which these writes and syncs fail, and
@@ -12,7 +12,7 @@ fn make(
     words: &[&str],
     blocks: usize,
     fails: &[u64],
-) -> Result<(Told, MemDisk), AllocError> {
+) -> Result<(Told, MemDisk), NoMemory> {
     let old = vec![in alloc; Block([7; 1024]); blocks]?;
     let mut image = MemDisk::new(alloc, old, Vec::new(alloc), Vec::from_slice(alloc, fails)?);
     let told = tell_over(alloc, words, "", "", &mut image)?;

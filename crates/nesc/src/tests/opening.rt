@@ -1,5 +1,6 @@
-use crate::tests::{block_of, disk_of, superblock, tell_over};
+use crate::tests::{block_of, superblock, tell_over};
 use nesc_base::{Block, Disk};
+use nesc_fakes::MemDisk;
 use nesc_monitor::Status;
 use std::test::Fail;
 
@@ -125,7 +126,7 @@ fn images_open_or_are_refused(rt: HostRuntime) -> Result<(), Fail> {
         ),
     ] {
         for read in from..to {
-            let mut image = disk_of(alloc, size, blocks, &[read])?;
+            let mut image = MemDisk::with_blocks(alloc, size, blocks, &[read])?;
             let told = tell_over(alloc, &["run"], commands, schedule, &mut image)?;
             let (out, err) = if status == Status::Done {
                 (line, "")

@@ -1,12 +1,13 @@
 use crate::tests::{Told, line_of, new_image, no_disk, source_of, tell_over, tell_with};
 use crate::without_memory;
+use nesc_base::NoMemory;
 use nesc_fakes::MemSink;
 use nesc_monitor::{Status, run};
 use std::alloc::{AllocError, Global};
 use std::test::Fail;
 
 /// What `run` answers over the least image, of no files.
-fn tell(alloc: Global, words: &[&str], commands: &str, schedule: &str) -> Result<Told, AllocError> {
+fn tell(alloc: Global, words: &[&str], commands: &str, schedule: &str) -> Result<Told, NoMemory> {
     let mut image = new_image(alloc)?;
     tell_over(alloc, words, commands, schedule, &mut image)
 }
@@ -20,7 +21,7 @@ const GUEST_TRACE: &str =
     "h ok\nh ok\ng 1 1\ng 1 2\nt 1 3 miss unmapped 0\ni 1 hold 1\nt 1 3 walk 0\nr 1 1 ok 1\nt 1 2 hole 0\nt 1 3 walk 0\nt 1 4 hole 0\nr 1 2 ok 3 z 1111111111111111 z\ndone 10\n";
 
 /// What `run` answers over sources and a sink of which these calls fail.
-fn tell_failing(alloc: Global, schedule: &str, fails: [&[u64]; 3]) -> Result<Told, AllocError> {
+fn tell_failing(alloc: Global, schedule: &str, fails: [&[u64]; 3]) -> Result<Told, NoMemory> {
     let [commands_fail, schedule_fail, out_fail] = fails;
     let commands = source_of(alloc, GUEST_COMMANDS.as_bytes(), commands_fail)?;
     let schedule = source_of(alloc, schedule.as_bytes(), schedule_fail)?;

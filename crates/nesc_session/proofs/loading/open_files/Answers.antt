@@ -24,7 +24,7 @@ pub overflow_add-count_held : goal.overflow_add-count_held
 overflow_add-count_held g c =
     let few : held_in c.deref.result.now ≤ length c.deref.result.now = held_few c.deref.result.now in
     let many = ap length c.deref.ensures.value ∙ c.in_ok-geometry.ensures.owners.count in
-    omega (arith, c.in_ok-geometry.ensures.sizes.0.most_blocks, c.count_held.ensures, c.requires)
+    omega (arith, c.in_ok-geometry.ensures.sizes.0.few_blocks, c.count_held.ensures, c.requires)
 
 pub loop-k-init : goal.loop-k-init
 loop-k-init g c =

@@ -2,10 +2,10 @@ use Rattle.std.proofs.Common.{◌≡◌, ◌+◌, ◌-◌, ◌<◌, ◌≤◌, B
 use Rattle.std.specs.Int.{from_bool}
 use Rattle.nesc_requests.specs.declared.request.Kind.TheVariants.{Unmapped}
 use Rattle.nesc_base.specs.Files.{file_at}
-use Rattle.nesc_session.proofs.Holding.{length_then, holds_then, HoldsAll-more}
-use Rattle.nesc_session.proofs.KeepsHeld.{KeepsHeld-HoldsAll}
+use Rattle.file_model.specs.Files.{LeadsTo, holding}
+use Rattle.nesc_session.proofs.Holding.{length_then, holds_then, leads-more}
+use Rattle.nesc_session.proofs.KeepsHeld.{KeepsHeld-LeadsTo}
 use Rattle.nesc_session.proofs.Standing.{stands-length}
-use Rattle.nesc_session.specs.FilesInMemory.{HoldsAll}
 use Rattle.nesc_session.proofs.Wanted.{wanted_from, wanted-range, wanted-end, length-wanted_fresh, length-wanted_le}
 use Rattle.nesc_session.proofs.files.Files.hold.Goals as goal
 
@@ -44,9 +44,9 @@ loop-at-preserved c =
     let below : c.loop-at.at < file.length = omega arith in
     let stands = stands-length c.args.self.now.files c.args.file.0 c.loop-at.at below in
     let next : suc (c.loop-at.at - c.args.v) ≡ c.loop-at.at + 1 - c.args.v = omega arith in
-    let more = HoldsAll-more _ _ _ stands c.loop-at.self.files c.args.v (c.loop-at.at - c.args.v) c.loop-at.at (omega arith) c.loop-at.invariant.held c.hold_one.result below c.hold_one.ensures.fresh c.hold_one.ensures.zeros c.hold_one.ensures.same in
+    let more = leads-more _ _ _ stands c.loop-at.self.files c.args.v (c.loop-at.at - c.args.v) c.loop-at.at (omega arith) c.loop-at.invariant.held c.hold_one.result below c.hold_one.ensures.fresh c.hold_one.ensures.zeros c.hold_one.ensures.same in
     record {
-      held = subst (λ m. HoldsAll c.args.self.now.files c.args.file.0 (wanted_from file c.args.v m) c.hold_one.new.self.files) next more.0;
+      held = subst (λ m. LeadsTo c.args.self.now.files (holding c.args.file.0 (wanted_from file c.args.v m)) c.hold_one.new.self.files) next more.0;
       count = omega (arith, more.1, ap (λ m. length (wanted_from file c.args.v m)) next, c.from-count.ensures, from_bool-cond c.hold_one.result);
       room = omega (arith, c.hold_one.ensures.room, c.from-count.ensures, from_bool-cond c.hold_one.result);
     }
@@ -55,7 +55,7 @@ pub returns-clause-held : goal.returns-clause-held
 returns-clause-held c =
     let file = file_at c.args.self.now.files c.args.file.0 in
     let all = wanted-range file (record { v = c.args.v; n = c.args.n; kind = Unmapped }) ∙ wanted-end file c.args.v (c.loop-at.at - c.args.v) c.args.n c.min-end.result (omega arith) (omega arith) (λ some. omega arith) in
-    subst (λ blocks. HoldsAll c.args.self.now.files c.args.file.0 blocks c.loop-at.self.files) (sym all) c.loop-at.invariant.held
+    subst (λ blocks. LeadsTo c.args.self.now.files (holding c.args.file.0 blocks) c.loop-at.self.files) (sym all) c.loop-at.invariant.held
 
 pub returns-clause-count : goal.returns-clause-count
 returns-clause-count c =
@@ -64,4 +64,4 @@ returns-clause-count c =
     c.loop-at.invariant.count ∙ sym (ap length all)
 
 pub returns-clause-keeps : goal.returns-clause-keeps
-returns-clause-keeps c = KeepsHeld-HoldsAll _ _ c.args.file.0 _ (returns-clause-held c)
+returns-clause-keeps c = KeepsHeld-LeadsTo _ _ (holding c.args.file.0 _) (returns-clause-held c)

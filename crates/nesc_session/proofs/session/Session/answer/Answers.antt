@@ -1,21 +1,13 @@
 use Rattle.std.proofs.Common.{refl, ap, arith}
-use Rattle.nesc_requests.specs.declared.host.HostCommand.TheVariants.{Create, Put, Get}
 use Rattle.nesc_session.specs.Room.{room_for}
-use Rattle.nesc_session.specs.Session.{state_of}
 use Rattle.nesc_session.proofs.RoomLemmas.{sum-keeps}
-use Rattle.nesc_session.proofs.SessionLemmas.{Step-answered}
+use Rattle.nesc_session.proofs.SessionLemmas.{Steps-answered}
 use Rattle.nesc_session.proofs.session.Session.answer.Goals as goal
 
 pub returns-in-Create-clause-steps : goal.returns-in-Create-clause-steps
 returns-in-Create-clause-steps c =
-    let session = c.args.self.now in
     let step = c.create.ensures.step in
-    rw c.in-Create.is (record {
-      changes = step.changes;
-      step = λ kept count. Step-answered session.setting (state_of kept count session) (Create c.in-Create.name c.in-Create.length) c.create.result step.changes c.create.new.self.files session.functions.items (step.answers, refl) step.leads;
-      law = λ kept count. refl;
-      same_setting = refl;
-    })
+    rw c.in-Create.is (Steps-answered c.args.self.now refl refl step.changes (step.answers, refl) step.leads)
 
 pub returns-in-Create-clause-ready : goal.returns-in-Create-clause-ready
 returns-in-Create-clause-ready c more before =
@@ -24,14 +16,8 @@ returns-in-Create-clause-ready c more before =
 
 pub returns-in-Put-clause-steps : goal.returns-in-Put-clause-steps
 returns-in-Put-clause-steps c =
-    let session = c.args.self.now in
     let step = c.put.ensures.step in
-    rw c.in-Put.is (record {
-      changes = step.changes;
-      step = λ kept count. Step-answered session.setting (state_of kept count session) (Put c.in-Put.name c.in-Put.v c.in-Put.blocks) c.put.result step.changes c.put.new.self.files session.functions.items (step.answers, refl) step.leads;
-      law = λ kept count. refl;
-      same_setting = refl;
-    })
+    rw c.in-Put.is (Steps-answered c.args.self.now refl refl step.changes (step.answers, refl) step.leads)
 
 pub returns-in-Put-clause-ready : goal.returns-in-Put-clause-ready
 returns-in-Put-clause-ready c more before =
@@ -41,14 +27,8 @@ returns-in-Put-clause-ready c more before =
 
 pub returns-in-Get-clause-steps : goal.returns-in-Get-clause-steps
 returns-in-Get-clause-steps c =
-    let session = c.args.self.now in
     let step = c.get.ensures in
-    rw c.in-Get.is (record {
-      changes = step.changes;
-      step = λ kept count. Step-answered session.setting (state_of kept count session) (Get c.in-Get.name c.in-Get.v c.in-Get.into) c.get.result step.changes session.files.files session.functions.items (step.answers, refl) step.leads;
-      law = λ kept count. refl;
-      same_setting = refl;
-    })
+    rw c.in-Get.is (Steps-answered c.args.self.now refl refl step.changes (step.answers, refl) step.leads)
 
 pub returns-in-Attach-clause-ready : goal.returns-in-Attach-clause-ready
 returns-in-Attach-clause-ready c more before =

@@ -1,24 +1,17 @@
 use Rattle.std.proofs.Common.{◌≡◌, ◌<◌, [], length, slice_set, refl, sym, ap, subst, ◌∙◌, rules}
 use Rattle.nesc_requests.specs.Script.{numbered}
 use Rattle.nesc_requests.specs.declared.host.HostAnswer.TheVariants.{NoFile, FunctionTaken, FileTaken, Ok}
-use Rattle.nesc_requests.specs.declared.host.HostCommand.TheVariants.{Attach}
 use Rattle.file_model.specs.Functions.{is_taken}
 use Rattle.file_model.specs.HostCommands.{AttachStep, attached_to}
-use Rattle.nesc_session.specs.Session.{state_of}
 use Rattle.nesc_session.proofs.Items.{Becomes-item, is_off-item, is_off-none}
-use Rattle.nesc_session.proofs.SessionLemmas.{Step-answered}
+use Rattle.nesc_session.proofs.SessionLemmas.{Steps-answered}
 use Rattle.nesc_session.proofs.session.Session.attach.Goals as goal
 
 pub returns-in_default-clause-steps : goal.returns-in_default-clause-steps
 returns-in_default-clause-steps c =
     let session = c.args.self.now in
     let attach : AttachStep session.files.files session.functions.items c.args.f.0 c.args.name.now NoFile session.functions.items = (search rules, refl) in
-    record {
-      changes = [];
-      step = λ kept count. Step-answered session.setting (state_of kept count session) (Attach c.args.f c.args.name.now) NoFile [] session.files.files session.functions.items (attach, refl) refl;
-      law = λ kept count. refl;
-      same_setting = refl;
-    }
+    Steps-answered session refl refl [] (attach, refl) refl
 
 pub returns-in_default-index_of_function-clause-steps : goal.returns-in_default-index_of_function-clause-steps
 returns-in_default-index_of_function-clause-steps c =
@@ -27,12 +20,7 @@ returns-in_default-index_of_function-clause-steps c =
     let none = ap (λ functions. numbered functions c.args.f.0) (sym c.deref.ensures.value) ∙ c.in_default-index_of_function.ensures in
     let attach : AttachStep session.files.files session.functions.items c.args.f.0 c.args.name.now FunctionTaken session.functions.items =
     ((c.in-Some.file.0, found.0, found.1), is_off-none session.functions.items c.args.f.0 none, refl) in
-    record {
-      changes = [];
-      step = λ kept count. Step-answered session.setting (state_of kept count session) (Attach c.args.f c.args.name.now) FunctionTaken [] session.files.files session.functions.items (attach, refl) refl;
-      law = λ kept count. refl;
-      same_setting = refl;
-    }
+    Steps-answered session refl refl [] (attach, refl) refl
 
 pub returns-then-not-is_off-clause-steps : goal.returns-then-not-is_off-clause-steps
 returns-then-not-is_off-clause-steps c =
@@ -41,12 +29,7 @@ returns-then-not-is_off-clause-steps c =
     let within = subst (λ all. c.in-Some-index_of_function.index < length all) c.deref.ensures.value c.in-Some-index_of_function.ensures.0 in
     let on = is_off-item session.functions.items c.args.f.0 c.in-Some-index_of_function.index c.in-Some-index_of_function.ensures.1 c.index.result.now within c.index.ensures ∙ sym c.if-not-is_off.ensures in
     let attach : AttachStep session.files.files session.functions.items c.args.f.0 c.args.name.now FunctionTaken session.functions.items = ((c.in-Some.file.0, found.0, found.1), on, refl) in
-    record {
-      changes = [];
-      step = λ kept count. Step-answered session.setting (state_of kept count session) (Attach c.args.f c.args.name.now) FunctionTaken [] session.files.files session.functions.items (attach, refl) refl;
-      law = λ kept count. refl;
-      same_setting = refl;
-    }
+    Steps-answered session refl refl [] (attach, refl) refl
 
 pub returns-then-is_taken-clause-steps : goal.returns-then-is_taken-clause-steps
 returns-then-is_taken-clause-steps c =
@@ -56,12 +39,7 @@ returns-then-is_taken-clause-steps c =
     let off = is_off-item session.functions.items c.args.f.0 c.in-Some-index_of_function.index c.in-Some-index_of_function.ensures.1 c.index.result.now within c.index.ensures ∙ sym c.if-not-is_off.ensures in
     let taken = ap (λ all. is_taken all c.in-Some.file.0) (sym c.deref-2.ensures.value) ∙ sym c.if-is_taken.ensures in
     let attach : AttachStep session.files.files session.functions.items c.args.f.0 c.args.name.now FileTaken session.functions.items = ((c.in-Some.file.0, found.0, found.1, off, taken), refl) in
-    record {
-      changes = [];
-      step = λ kept count. Step-answered session.setting (state_of kept count session) (Attach c.args.f c.args.name.now) FileTaken [] session.files.files session.functions.items (attach, refl) refl;
-      law = λ kept count. refl;
-      same_setting = refl;
-    }
+    Steps-answered session refl refl [] (attach, refl) refl
 
 pub returns-clause-steps : goal.returns-clause-steps
 returns-clause-steps c =
@@ -80,9 +58,4 @@ returns-clause-steps c =
       free = ap (λ all. is_taken all c.in-Some.file.0) (sym c.deref-2.ensures.value) ∙ sym c.if-is_taken.ensures;
       given = Becomes-item functions c.args.f.0 index number c.index_mut.result.now c.attach.new.self within c.index_mut.ensures.value (λ one other. other ≡ attached_to one c.in-Some.file.0) c.attach.ensures;
     } in
-    record {
-      changes = [];
-      step = λ kept count. Step-answered session.setting (state_of kept count session) (Attach c.args.f c.args.name.now) Ok [] session.files.files after (attach, refl) refl;
-      law = λ kept count. refl;
-      same_setting = refl;
-    }
+    Steps-answered session refl refl [] (attach, refl) refl
