@@ -1,4 +1,5 @@
-//! A source, a sink and a disk in memory, which fail at the calls that they are told.
+//! A source, a sink and a disk in memory, which fail at the calls that they are told, and a disk over another that
+//! fails from some call on.
 #![tactic(auto)]
 
 mod mem_disk;
@@ -7,8 +8,10 @@ mod mem_source;
 mod rest;
 #[cfg(test)]
 mod tests;
+mod tiny_fuse;
 mod torn;
 
-pub use mem_disk::MemDisk;
+pub use mem_disk::{Call, MemDisk};
 pub use mem_sink::MemSink;
 pub use mem_source::MemSource;
+pub use tiny_fuse::TinyFuse;

@@ -11,8 +11,10 @@ use std::marker::Model;
 /// A write or a sync that the disk was asked for. `clock` is where the clock stood after it, and `before` the block
 /// that stood at the place before it.
 #[derive(Clone, Copy, Debug)]
-enum Call {
+pub enum Call {
+    /// A write of the block at a place, which may have failed.
     Write { clock: u64, at: u32, before: Block },
+    /// A sync, and whether it succeeded.
     Sync { clock: u64, done: bool },
 }
 
@@ -140,6 +142,14 @@ impl MemDisk {
         ensures { result.now ≡ self.now.blocks }
     {
         &self.blocks
+    }
+
+    /// The writes and syncs that the disk was given, in order, those that failed too. One that there was no memory to
+    /// keep is not among them.
+    pub fn calls(&self) -> &[Call]
+        ensures { result.now ≡ self.now.calls }
+    {
+        &self.calls
     }
 
     /// Whether a stop while the clock stood at `k` could have left these blocks. It never could at a clock value to

@@ -1,6 +1,6 @@
 ghost use Rattle.std.specs.Prelude.{◌≡◌, ◌<◌, length};
 
-use crate::{MemDisk, MemSink, MemSource};
+use crate::{Call, MemDisk, MemSink, MemSource, TinyFuse};
 use nesc_base::{Block, Disk, DiskFault, NoMemory, ReadFault, Sink, Source, WriteFault};
 use std::alloc::Global;
 use std::test::Fail;
@@ -165,5 +165,21 @@ fn disk_tears_what_is_unsynced(rt: HostRuntime) -> Result<(), Fail> {
         let given = image_at(alloc, &disk, clock, 1)?;
         assert_eq!(rt; given.as_slice(), image.as_slice(), "at {clock}");
     }
+    Ok(())
+}
+
+#[test]
+fn fuse_fails_every_call_after_those_it_passes_on(rt: HostRuntime) -> Result<(), Fail> {
+    let disk = MemDisk::with_blocks(rt.alloc(), 2, &[(1, filled(5))], &[])?;
+    let mut fuse = TinyFuse::new(disk, 2);
+    let mut block = Block::zero();
+    assert_eq!(rt; fuse.read(1, &mut block), Ok(()));
+    assert_eq!(rt; write_block(&mut fuse, 0, 7), Ok(()));
+    assert_eq!(rt; fuse.read(0, &mut block), Err(DiskFault));
+    assert_eq!(rt; block, filled(5));
+    assert_eq!(rt; fuse.sync(), Err(DiskFault));
+    assert_eq!(rt; (fuse.clock(), fuse.inner().clock()), (2, 1));
+    let calls = fuse.inner().calls();
+    assert!(rt; matches!(calls, [Call::Write { at: 0, .. }]));
     Ok(())
 }

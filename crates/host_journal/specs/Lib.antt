@@ -1,0 +1,10 @@
+pub mod Committing
+pub mod Journal
+pub mod Kept
+pub mod Laws
+pub mod Replaying
+pub mod Replays
+pub mod Sound
+pub mod Staged
+pub mod Starting
+pub mod Store
