@@ -1,7 +1,7 @@
 -- Files: what is read from them, and how they change.
-use Rattle.std.specs.Prelude.{◌≡◌, ◌≢◌, ℕ, ◌+◌, ◌<◌, ◌≤◌, ◌==◌, ◌&&◌, ◌||◌, nat_eq, not, Bool, false, List, [], ◌∷◌, length, Some, None, IsSome, IsTrue, unwrap_or, filter, map}
-use Rattle.std.specs.List.{range_with_len, AllByRecursion, IsDistinct}
-use Rattle.std.specs.FinMap.{empty, get, insert, contains_key}
+use Rattle.std.specs.Prelude.{◌≡◌, ◌≢◌, ℕ, ◌+◌, ◌-◌, ◌<◌, ◌≤◌, ◌==◌, ◌&&◌, ◌||◌, nat_eq, nat_lt, not, Bool, false, List, [], ◌∷◌, length, Some, None, IsSome, IsTrue, unwrap_or, filter, map}
+use Rattle.std.specs.List.{range_with_len, sum_by, AllByRecursion, IsDistinct}
+use Rattle.std.specs.FinMap.{empty, get, insert, remove, retain_keys, contains_key, len, values}
 use Rattle.nesc_base.specs.declared.block.Block.{Block}
 use Rattle.nesc_base.specs.Block.{zero_block}
 use Rattle.nesc_base.specs.Files.{Body, File, Files, longest_file, most_files}
@@ -24,6 +24,10 @@ read_from file v n = map (read file) (range_with_len v n)
 -- those of n blocks from v on that are not held, in rising order
 abbrev pub unheld : File → ℕ → ℕ → List ℕ
 unheld file v n = filter (λ at. not (holds file at)) (range_with_len v n)
+
+-- and of these, those that lie below the length
+abbrev pub unheld_below : File → ℕ → ℕ → List ℕ
+unheld_below file v n = filter (λ at. nat_lt at file.length) (unheld file v n)
 
 -- Names and numbers
 
@@ -51,6 +55,13 @@ pub record IsLowestUnused (files : Files) (n : ℕ) : Type 0 where
   pub unused : get files n ≡ None
   pub lower : (m : ℕ) → 1 ≤ m → m < n → IsSome (get files m)
 
+-- how many blocks all files hold, and how many of so many data blocks are free
+abbrev pub held_in : Files → ℕ
+held_in files = sum_by (λ file. len file.body) (values files)
+
+abbrev pub free : ℕ → Files → ℕ
+free blocks files = blocks - held_in files
+
 -- Changes
 
 -- a change of files: a file is made under a number, or a file comes to hold blocks, or a held block is written
@@ -69,6 +80,21 @@ pub record Creates (old : Files) (n : ℕ) (name : List ℕ) (length : ℕ) (new
   pub unnamed : IsUnnamed old name
   pub lowest : IsLowestUnused old n
   pub result : new ≡ insert old n (record { name = name; length = length; body = empty })
+
+-- the file is gone, and its blocks with it
+pub record Deletes (old : Files) (n : ℕ) (new : Files) : Type 0 where
+  pub stands : IsSome (get old n)
+  pub result : new ≡ remove old n
+
+-- what the body holds below this block
+abbrev pub below : ℕ → Body → Body
+below length body = retain_keys body (λ v. nat_lt v length)
+
+-- the file has another length, and holds nothing at or past it
+pub record Resizes (old : Files) (n length : ℕ) (new : Files) : Type 0 where
+  pub file : File
+  pub stands : get old n ≡ Some file
+  pub result : new ≡ insert old n (record file { length = length; body = below length file.body })
 
 -- the body with a block of zeros at each of these places
 abbrev pub with_zeros : Body → List ℕ → Body

@@ -1,17 +1,17 @@
 -- A handling: the host holds the blocks that a function waits for.
-use Rattle.std.specs.Prelude.{◌≡◌, ℕ, nat_lt, List, [], length, filter, take, Option, Some, None}
+use Rattle.std.specs.Prelude.{◌≡◌, ℕ, List, [], length, take, Option, Some, None}
 use Rattle.nesc_base.specs.declared.numbers.FnNo.{FnNo}
 use Rattle.nesc_requests.specs.declared.request.Miss.{Miss}
 use Rattle.nesc_requests.specs.declared.request.Reply.{Reply}
 use Rattle.nesc_base.specs.Files.{File, Files, file_at}
-use Rattle.file_model.specs.Files.{Change, holding, unheld}
+use Rattle.file_model.specs.Files.{Change, holding, unheld_below}
 use Rattle.file_model.specs.Functions.{Attached, Function, waiting_of}
 use Rattle.file_model.specs.declared.outcome.Handled.{Handled}
 use Rattle.file_model.specs.declared.outcome.Handled.TheVariants as handled
 
 -- those of the blocks of a miss that lie below the length and are not held, in rising order
 abbrev pub wanted : File → Miss → List ℕ
-wanted file miss = filter (λ at. nat_lt at file.length) (unheld file miss.v miss.n)
+wanted file miss = unheld_below file miss.v miss.n
 
 -- the function waited; the first so many of the blocks that it wants are held; and it is ready
 pub record HoldsFirst (files : Files) (old : Function) (count : ℕ) (reply : Option Reply) (changes : List Change) (new : Function) : Type 0 where

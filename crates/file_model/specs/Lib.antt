@@ -10,6 +10,7 @@ pub mod Laws
 pub mod Lines
 pub mod Machine
 pub mod Misses
+pub mod Places
 pub mod PlainFile
 pub mod PlainFiles
 pub mod Staging

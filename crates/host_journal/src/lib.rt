@@ -10,6 +10,3 @@ mod staged;
 
 pub use journal::{Journal, StartFault};
 pub use laws::{kept_is_left, stages_and_forgets, stands_for_some, still_rests};
-
-#[cfg(test)]
-mod tests;

@@ -5,16 +5,17 @@ use Rattle.nesc_base.specs.Block.{zero_block}
 use Rattle.nesc_base.specs.declared.block.Block.{Block}
 use Rattle.nesc_base.specs.declared.geometry.Geometry.{Geometry}
 use Rattle.nesc_base.specs.Geometry.{area_from, map_at, map_blocks, table_at}
+use Rattle.nesc_base.specs.Places.{Owner}
 use Rattle.image_layout.specs.declared.fault.ImageFault.{ImageFault}
 use Rattle.image_layout.specs.declared.fault.ImageFault.TheVariants.{BadSuper, BadSize, BadList, BadTable, BadOwner, TwiceOwned}
 use Rattle.image_layout.specs.declared.table.TableEntry.{TableEntry}
-use Rattle.image_layout.specs.Laws.{HasFilesBesideSlots, HasNoFilesBesideSlots, IsRefusedAsItStands, OpensAsItStands, OpensBesideSlots}
+use Rattle.image_layout.specs.Laws.{HasFilesBesideSlots, HasNoFilesBesideSlots, IsDividedAsItStands, IsRefusedAsItStands, OpensAlone, OpensAsItStands, OpensBesideSlots}
 use Rattle.image_layout.specs.Opens.{HasFiles, HasParts, IsDivided, IsHeld, IsMap, IsMapBlock, entries_in, lengths_of}
-use Rattle.image_layout.specs.Owners.{AreOwners, Owner}
+use Rattle.image_layout.specs.Owners.{AreOwners}
 use Rattle.image_layout.specs.Refusal.{DoesNotOpen, HasNoFiles, LacksOwners, LacksTable, OwnsTwice}
 use Rattle.image_layout.specs.Super.{IsSuperblock}
 use Rattle.image_layout.specs.Table.{IsTable}
-use Rattle.slot_layout.specs.Slots.{AreAlike, StandsFor, block_at}
+use Rattle.slot_layout.specs.Slots.{AreAlike, Lays, StandsFor, block_at}
 use Rattle.slot_layout.proofs.Alike.{Lays-below, alike_back, alike_block, alike_enough, alike_some, first_closed, laid_alone, lays_itself, length-Lays}
 use Rattle.image_layout.proofs.MapOwners.{owned_below}
 
@@ -138,7 +139,33 @@ images_beside one other geometry files places closed closed' alike opens =
       has = files_beside one other geometry files places alike (subst (λ blocks. HasFiles geometry blocks files places) alone opens.has);
     }
 
--- an image is divided as it is with its slots laid over
+pub opens_alone : (image : List Block) → OpensAlone image
+opens_alone image geometry files places closed divided has = record {
+  laid = image;
+  divided = divided;
+  lays = lays_itself geometry image (first_closed geometry image closed);
+  has = has;
+}
+
+-- with its slots laid over an image is divided as it is
+divided_over : (geometry : Geometry) (image laid : List Block) → Lays geometry image laid → IsDivided image geometry → IsDivided laid geometry
+divided_over geometry image laid lays divided =
+    let long = length-Lays geometry image laid lays in
+    let first : block_at laid 0 ≡ block_at image 0 = ap (λ o. unwrap_or o zero_block) (Lays-below geometry image laid 0 lays (omega arith)) in
+    let some = divided.some in
+    let enough = divided.enough in
+    record {
+      some = omega arith;
+      super = subst (λ block. IsSuperblock block geometry) (sym first) divided.super;
+      enough = omega arith;
+    }
+
+pub divided_standing : (image blocks : List Block) → IsDividedAsItStands image blocks
+divided_standing image blocks geometry stands divided =
+    divided_beside geometry stands.laid blocks (alike_back geometry blocks stands.laid stands.alike)
+    (divided_over geometry image stands.laid stands.lays divided)
+
+-- and it is divided as what it stands for
 divided_under : (geometry : Geometry) (image blocks : List Block) → StandsFor geometry image blocks → IsDivided blocks geometry → IsDivided image geometry
 divided_under geometry image blocks stands divided =
     let over : IsDivided stands.laid geometry = divided_beside geometry blocks stands.laid stands.alike divided in

@@ -6,8 +6,8 @@ use Rattle.std.proofs.lemmas.Bool.{cases_eq}
 use Rattle.std.proofs.lemmas.Bool.Decides.{Decides-eqb}
 use Rattle.std.proofs.lemmas.Option.{none-some, same_Some}
 use Rattle.image_layout.specs.Opens.{Repeats}
-use Rattle.image_layout.specs.Owners.{Owner}
 use Rattle.nesc_base.proofs.Maps.{get-insert_other, get-insert_same}
+use Rattle.nesc_base.specs.Places.{Owner}
 
 -- the owner is the block at v of file n
 abbrev pub IsAt : Owner → ℕ → ℕ → Type 0

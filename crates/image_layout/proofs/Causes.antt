@@ -5,9 +5,9 @@ use Rattle.std.proofs.lemmas.Option.{same_Some}
 use Rattle.nesc_base.specs.declared.block.Block.{Block}
 use Rattle.nesc_base.specs.declared.geometry.Geometry.{Geometry}
 use Rattle.nesc_base.specs.Geometry.{map_at, table_at, total}
+use Rattle.nesc_base.specs.Places.{Owner}
 use Rattle.image_layout.specs.declared.table.TableEntry.{TableEntry}
 use Rattle.image_layout.specs.Opens.{IsMap, IsMapBlock, Repeats}
-use Rattle.image_layout.specs.Owners.{Owner}
 use Rattle.image_layout.specs.declared.fault.ImageFault.TheVariants.{BadList, BadTable, BadOwner, TwiceOwned}
 use Rattle.image_layout.specs.Refusal.{IsRefused, LacksBlocks, LacksSuper}
 use Rattle.slot_layout.specs.Slots.{Lays, block_at, list_at, list_of}

@@ -7,12 +7,11 @@ use Rattle.std.proofs.lemmas.Option.{none-some, same_Some, slice_get-map, slice_
 use Rattle.nesc_base.specs.declared.block.Block.{Block}
 use Rattle.nesc_base.specs.declared.geometry.Geometry.{Geometry}
 use Rattle.nesc_base.specs.Files.{File, Files, IsFile, IsFileSet}
-use Rattle.nesc_base.specs.Geometry.{table_at}
-use Rattle.nesc_base.specs.Places.{AreApart, HeldAt, Owns, Places}
+use Rattle.nesc_base.specs.Geometry.{area_from, table_at}
+use Rattle.nesc_base.specs.Places.{AreApart, HeldAt, IsOwned, Owner, Owns, Places}
 use Rattle.image_layout.specs.declared.table.TableEntry.{TableEntry}
 use Rattle.image_layout.specs.Laws.{OpensAsFileSet}
-use Rattle.image_layout.specs.Opens.{AreFiles, ArePlaces, HasFiles, HasParts, IsHeld, IsOwned, lengths_of}
-use Rattle.image_layout.specs.Owners.{Owner}
+use Rattle.image_layout.specs.Opens.{AreFiles, ArePlaces, HasFiles, HasParts, IsHeld, lengths_of}
 use Rattle.image_layout.specs.Table.{Fits}
 use Rattle.slot_layout.specs.Slots.{block_at}
 use Rattle.image_layout.proofs.MapOwners.{may_own}
@@ -89,7 +88,7 @@ owns_some (Some held) v at owns = refl
 
 module _ (geometry : Geometry) (owners : List (Option Owner)) (files : Files) (places : Places) (are : ArePlaces geometry owners files places) where
   -- a place that is owned has an owner
-  owned_if_owns : (n v at : ℕ) → Owns places n v at → IsOwned geometry owners n v at
+  owned_if_owns : (n v at : ℕ) → Owns places n v at → IsOwned (area_from geometry) owners n v at
   owned_if_owns n v at owns =
       let filed : IsSome (get files n) = sym (are.filed n) ∙ owns_some (get places n) v at owns in
       (are.each n v at filed).0 owns

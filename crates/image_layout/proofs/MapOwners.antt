@@ -3,9 +3,10 @@ use Rattle.std.proofs.Common.{◌≡◌, ℕ, ◌/◌, ◌%◌, ◌<◌, List, O
 use Rattle.std.proofs.lemmas.Option.{slice_get_within}
 use Rattle.nesc_base.specs.declared.block.Block.{Block}
 use Rattle.nesc_base.specs.declared.geometry.Geometry.{Geometry}
+use Rattle.nesc_base.specs.Places.{Owner}
 use Rattle.image_layout.specs.declared.table.TableEntry.{TableEntry}
 use Rattle.image_layout.specs.Opens.{IsMap, entries_in, lengths_of}
-use Rattle.image_layout.specs.Owners.{MayOwn, Owner}
+use Rattle.image_layout.specs.Owners.{MayOwn}
 use Rattle.image_layout.proofs.OneMap.{slice_get-among}
 
 -- each owner of a map may own

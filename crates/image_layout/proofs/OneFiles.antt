@@ -9,10 +9,10 @@ use Rattle.std.proofs.lemmas.Bool.{false≢true}
 use Rattle.nesc_base.specs.declared.block.Block.{Block}
 use Rattle.nesc_base.specs.declared.geometry.Geometry.{Geometry}
 use Rattle.nesc_base.specs.Files.{Body, File, Files}
-use Rattle.nesc_base.specs.Places.{HeldAt, Places, place_of}
+use Rattle.nesc_base.specs.Geometry.{area_from}
+use Rattle.nesc_base.specs.Places.{HeldAt, IsOwned, Owner, Places, place_of}
 use Rattle.image_layout.specs.declared.table.TableEntry.{TableEntry}
-use Rattle.image_layout.specs.Opens.{AreFiles, ArePlaces, IsOwned}
-use Rattle.image_layout.specs.Owners.{Owner}
+use Rattle.image_layout.specs.Opens.{AreFiles, ArePlaces}
 
 -- maps from numbers that answer alike are one
 one_map_of : {X : Type 0} (one other : FinMap nat_cmp X) → ((n : ℕ) → get one n ≡ get other n) → one ≡ other
@@ -72,7 +72,7 @@ same_there (Some x) (Some y) there same = ap (λ z. Some z) (same x y refl refl)
 module _ (geometry : Geometry) (owners : List (Option Owner)) (files : Files) where
   -- what stands at a place of one file's is owned, and the other way round
   place_owned : (places : Places) → ArePlaces geometry owners files places → (n : ℕ) (held : HeldAt) → get places n ≡ Some held
-      → (v at : ℕ) → (get held v ≡ Some at) ↔ IsOwned geometry owners n v at
+      → (v at : ℕ) → (get held v ≡ Some at) ↔ IsOwned (area_from geometry) owners n v at
   place_owned places are n held there v at =
       let same : place_of places n v ≡ get held v = ap (option_and_then (λ (h : HeldAt). get h v)) there in
       let filed : IsSome (get files n) = sym (are.filed n) ∙ ap is_some there in (

@@ -5,10 +5,11 @@ use Rattle.byteorder.specs.Endian.{little_number}
 use Rattle.byteorder.specs.Numbers.{little_number-reads_back}
 use Rattle.nesc_base.specs.declared.block.Block.{Block}
 use Rattle.nesc_base.specs.declared.geometry.Geometry.{Geometry}
+use Rattle.nesc_base.specs.Places.{Owner}
 use Rattle.image_layout.specs.declared.table.TableEntry.{TableEntry}
 use Rattle.slot_layout.specs.Bytes.{four_bytes}
 use Rattle.image_layout.specs.Opens.{IsMap, entries_in, lengths_of}
-use Rattle.image_layout.specs.Owners.{AreOwners, Owner, owner_block, owner_bytes}
+use Rattle.image_layout.specs.Owners.{AreOwners, owner_block, owner_bytes}
 use Rattle.image_layout.proofs.OneReading.{same_items}
 use Rattle.image_layout.proofs.OwnersLemmas.{IsSpelledWhole, if_good, length-owner_bytes, spelled_whole}
 use Rattle.slot_layout.proofs.Pieces.{piece, spelled-piece}

@@ -3,9 +3,9 @@ use Rattle.std.proofs.Common.{◌≡◌, ℕ, List, Option, ap, ◌∙◌, subst
 use Rattle.nesc_base.specs.declared.block.Block.{Block}
 use Rattle.nesc_base.specs.declared.geometry.Geometry.{Geometry}
 use Rattle.nesc_base.specs.Geometry.{table_at}
+use Rattle.nesc_base.specs.Places.{Owner}
 use Rattle.image_layout.specs.declared.table.TableEntry.{TableEntry}
 use Rattle.image_layout.specs.Opens.{IsDivided, IsMap, Repeats, Says}
-use Rattle.image_layout.specs.Owners.{Owner}
 use Rattle.slot_layout.specs.Slots.{Lays, block_at}
 use Rattle.image_layout.specs.Table.{IsTable}
 use Rattle.slot_layout.proofs.OneLaid.{one_laid}

@@ -9,11 +9,10 @@ use Rattle.nesc_base.specs.declared.block.Block.{Block}
 use Rattle.nesc_base.specs.declared.geometry.Geometry.{Geometry}
 use Rattle.nesc_base.specs.Files.{File, Files}
 use Rattle.nesc_base.specs.Geometry.{area_from}
-use Rattle.nesc_base.specs.Places.{HeldAt, Places, place_of}
+use Rattle.nesc_base.specs.Places.{HeldAt, Owner, Places, place_of}
 use Rattle.image_layout.specs.declared.table.TableEntry.{TableEntry}
 use Rattle.image_layout.specs.Laws.{OpensAsSaid}
 use Rattle.image_layout.specs.Opens.{AreFiles, ArePlaces}
-use Rattle.image_layout.specs.Owners.{Owner}
 use Rattle.image_layout.proofs.Bodies.{IsOnce, belongs_if_held, held_if_belongs, held_of, numbered, slice_get-numbered}
 use Rattle.nesc_base.specs.Numbered.{map_from}
 use Rattle.nesc_base.proofs.Numbered.{found, get_before, get_from}

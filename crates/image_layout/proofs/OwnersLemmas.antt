@@ -4,7 +4,8 @@ use Rattle.std.proofs.lemmas.Option.{slice_get-get_or}
 use Rattle.std.proofs.lemmas.Slice.Eq.{bytes_eq-Decides}
 use Rattle.std.specs.Str.{bytes_eq}
 use Rattle.nesc_base.specs.declared.block.Block.{Block}
-use Rattle.image_layout.specs.Owners.{AreOwners, MayOwn, Owner, owner_block, owner_bytes}
+use Rattle.nesc_base.specs.Places.{Owner}
+use Rattle.image_layout.specs.Owners.{AreOwners, MayOwn, owner_block, owner_bytes}
 use Rattle.slot_layout.proofs.Pieces.{piece, spelled-piece}
 
 -- an entry has 8 bytes

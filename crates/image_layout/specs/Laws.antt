@@ -3,11 +3,10 @@ use Rattle.std.specs.Prelude.{◌≡◌, List, Option}
 use Rattle.nesc_base.specs.declared.block.Block.{Block}
 use Rattle.nesc_base.specs.declared.geometry.Geometry.{Geometry}
 use Rattle.nesc_base.specs.Files.{Files, IsFileSet}
-use Rattle.nesc_base.specs.Places.{AreApart, Places}
+use Rattle.nesc_base.specs.Places.{AreApart, Owner, Places}
 use Rattle.image_layout.specs.declared.fault.ImageFault.{ImageFault}
 use Rattle.image_layout.specs.declared.table.TableEntry.{TableEntry}
 use Rattle.image_layout.specs.Opens.{HasFiles, IsDivided, Opens, Says}
-use Rattle.image_layout.specs.Owners.{Owner}
 use Rattle.image_layout.specs.Refusal.{HasNoFiles, IsRefused}
 use Rattle.slot_layout.specs.Slots.{AreAlike, AreClosed, StandsFor}
 
@@ -50,6 +49,16 @@ OpensAsItStands image blocks =
 abbrev pub IsRefusedAsItStands : List Block → List Block → Type 0
 IsRefusedAsItStands image blocks =
     (geometry : Geometry) (fault : ImageFault) → IsDivided image geometry → StandsFor geometry image blocks → HasNoFiles geometry blocks fault → IsRefused image fault
+
+-- what an image stands for is divided as it is
+abbrev pub IsDividedAsItStands : List Block → List Block → Type 0
+IsDividedAsItStands image blocks = (geometry : Geometry) → StandsFor geometry image blocks → IsDivided image geometry → IsDivided blocks geometry
+
+-- where all gates are closed, an image that is divided opens as the files that its own blocks have
+abbrev pub OpensAlone : List Block → Type 0
+OpensAlone image =
+    (geometry : Geometry) (files : Files) (places : Places) → AreClosed geometry image → IsDivided image geometry → HasFiles geometry image files places
+    → Opens image geometry files places
 
 -- an image that is refused opens as nothing, and is refused for one cause
 abbrev pub OpensAsNothing : List Block → Type 0

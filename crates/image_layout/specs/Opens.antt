@@ -5,9 +5,9 @@ use Rattle.nesc_base.specs.declared.block.Block.{Block}
 use Rattle.nesc_base.specs.declared.geometry.Geometry.{Geometry}
 use Rattle.nesc_base.specs.Files.{File, Files}
 use Rattle.nesc_base.specs.Geometry.{area_from, block_owners, map_at, map_blocks, table_at, total}
-use Rattle.nesc_base.specs.Places.{Owns, Places}
+use Rattle.nesc_base.specs.Places.{IsOwned, Owner, Owns, Places}
 use Rattle.image_layout.specs.declared.table.TableEntry.{TableEntry}
-use Rattle.image_layout.specs.Owners.{AreOwners, Owner}
+use Rattle.image_layout.specs.Owners.{AreOwners}
 use Rattle.slot_layout.specs.Slots.{Lays, block_at}
 use Rattle.image_layout.specs.Super.{IsSuperblock}
 use Rattle.image_layout.specs.Table.{IsTable}
@@ -68,15 +68,10 @@ pub record AreFiles (geometry : Geometry) (laid : List Block) (entries : List (O
   pub named : (e : ℕ) → option_map (λ file. record { name = file.name; length = file.length }) (get files (e + 1)) ≡ unwrap_or (slice_get entries e) None
   pub held : (n v : ℕ) (file : File) (block : Block) → get files n ≡ Some file → (get file.body v ≡ Some block) ↔ IsHeld geometry laid owners n v block
 
--- the data block at this place of the image has an owner, whose block of this file it is
-abbrev pub IsOwned : Geometry → List (Option Owner) → ℕ → ℕ → ℕ → Type 0
-IsOwned geometry owners n v at =
-    (k : ℕ) × (owner : Owner) × (slice_get owners k ≡ Some (Some owner)) × (owner.0.0 ≡ n) × (owner.1 ≡ v) × (at ≡ area_from geometry + k)
-
 -- there are places for each of the files and for no other, and they are those of the owners
 pub record ArePlaces (geometry : Geometry) (owners : List (Option Owner)) (files : Files) (places : Places) : Type 0 where
   pub filed : (n : ℕ) → is_some (get places n) ≡ is_some (get files n)
-  pub each : (n v at : ℕ) → IsSome (get files n) → Owns places n v at ↔ IsOwned geometry owners n v at
+  pub each : (n v at : ℕ) → IsSome (get files n) → Owns places n v at ↔ IsOwned (area_from geometry) owners n v at
 
 -- the blocks that are laid over have these files, whose blocks stand at these places
 pub record HasFiles (geometry : Geometry) (laid : List Block) (files : Files) (places : Places) : Type 0 where

@@ -1,13 +1,9 @@
 -- A block of the map of owners: one entry of 8 bytes for each of its data blocks.
 use Rattle.std.specs.Prelude.{◌≡◌, ◌≢◌, ℕ, ◌-◌, ◌^◌, ◌<◌, List, ◌∷◌, ◌++◌, length, replicate, Option, Some, None, slice_get}
 use Rattle.nesc_base.specs.declared.block.Block.{Block}
-use Rattle.nesc_base.specs.declared.numbers.FileNo.{FileNo}
 use Rattle.nesc_base.specs.Geometry.{block_owners}
+use Rattle.nesc_base.specs.Places.{Owner}
 use Rattle.slot_layout.specs.Bytes.{block_of_bytes, four_bytes, spelled, two_bytes}
-
--- who holds a data block: a file, and where in it the block stands
-abbrev pub Owner : Type 0
-Owner = FileNo × ℕ
 
 -- a data block that is free has zeros, one that is held the file's number and the place
 abbrev pub owner_bytes : Option Owner → List ℕ

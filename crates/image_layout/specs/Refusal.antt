@@ -3,11 +3,11 @@ use Rattle.std.specs.Prelude.{◌≡◌, ◌⊎◌, ℕ, ◌+◌, ◌<◌, ◌�
 use Rattle.nesc_base.specs.declared.block.Block.{Block}
 use Rattle.nesc_base.specs.declared.geometry.Geometry.{Geometry}
 use Rattle.nesc_base.specs.Geometry.{map_at, map_blocks, table_at, total}
+use Rattle.nesc_base.specs.Places.{Owner}
 use Rattle.image_layout.specs.declared.fault.ImageFault.{ImageFault}
 use Rattle.image_layout.specs.declared.fault.ImageFault.TheVariants.{BadSuper, BadSize, BadList, BadTable, BadOwner, TwiceOwned}
 use Rattle.image_layout.specs.declared.table.TableEntry.{TableEntry}
 use Rattle.image_layout.specs.Opens.{IsDivided, IsMap, IsMapBlock, Repeats}
-use Rattle.image_layout.specs.Owners.{Owner}
 use Rattle.slot_layout.specs.Slots.{LacksList, Lays, block_at}
 use Rattle.image_layout.specs.Super.{IsSuperblock}
 use Rattle.image_layout.specs.Table.{IsTable}

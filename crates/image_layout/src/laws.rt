@@ -1,6 +1,6 @@
 ghost use Rattle.std.specs.Prelude.{List};
 ghost use Rattle.nesc_base.specs.declared.block.Block.{Block};
-ghost use Rattle.image_layout.specs.Laws.{HasFilesBesideSlots, HasNoFilesBesideSlots, IsRefusedAsItStands, OpensAsFileSet, OpensAsItStands, OpensAsNothing, OpensAsSaid, OpensBesideSlots, OpensOnce};
+ghost use Rattle.image_layout.specs.Laws.{HasFilesBesideSlots, HasNoFilesBesideSlots, IsDividedAsItStands, IsRefusedAsItStands, OpensAlone, OpensAsFileSet, OpensAsItStands, OpensAsNothing, OpensAsSaid, OpensBesideSlots, OpensOnce};
 
 /// An image opens as at most one division, one set of files and one set of places.
 pub fn opens_once()
@@ -29,8 +29,11 @@ pub fn opens_beside_slots()
     ensures causes { (one other : List Block) → HasNoFilesBesideSlots one other }
 {}
 
-/// An image opens as the blocks do that it stands for, and is refused as they have no files.
+/// An image opens as the blocks do that it stands for, and is refused as they have no files. Where all gates are closed
+/// it stands for itself.
 pub fn opens_as_it_stands()
+    ensures divided { (image blocks : List Block) → IsDividedAsItStands image blocks }
+    ensures alone { (image : List Block) → OpensAlone image }
     ensures opens { (image blocks : List Block) → OpensAsItStands image blocks }
     ensures refused { (image blocks : List Block) → IsRefusedAsItStands image blocks }
 {}

@@ -1,6 +1,7 @@
 ghost use Rattle.std.specs.Prelude.{◌≡◌, ◌≢◌, ◌<◌, ◌^◌, ℕ, IfSome, List, MatchOption, None, Option, Some, length, replicate, slice_get, slice_set};
 ghost use Rattle.std.specs.Bool.{OnFalse, OnTrue};
-ghost use Rattle.image_layout.specs.Owners.{AreOwners, MayOwn, Owner, owner_block, owner_bytes};
+ghost use Rattle.image_layout.specs.Owners.{AreOwners, MayOwn, owner_block, owner_bytes};
+ghost use Rattle.nesc_base.specs.Places.{Owner};
 
 use byteorder::{ByteOrder, LittleEndian};
 use nesc_base::{BLOCK_BYTES, Block, FileNo};
@@ -14,7 +15,7 @@ pub struct Owners {
 
 impl Model for Owners {
     ghost use Rattle.std.specs.Prelude.{◌≡◌, List, Option, length};
-    ghost use Rattle.image_layout.specs.Owners.{Owner};
+    ghost use Rattle.nesc_base.specs.Places.{Owner};
 
     ghost Value = { List (Option Owner) };
 

@@ -1,6 +1,6 @@
 ghost use Rattle.std.specs.Prelude.{◌≡◌, ◌<◌, ℕ, MatchOption, slice_get};
 ghost use Rattle.image_layout.specs.Opens.{Repeats};
-ghost use Rattle.image_layout.specs.Owners.{Owner};
+ghost use Rattle.nesc_base.specs.Places.{Owner};
 
 use nesc_base::FileNo;
 

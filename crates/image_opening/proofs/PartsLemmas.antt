@@ -8,11 +8,12 @@ use Rattle.nesc_base.specs.Disk.{Goes, Known, Unchanged}
 use Rattle.image_layout.specs.declared.fault.ImageFault.{ImageFault}
 use Rattle.image_layout.specs.declared.fault.ImageFault.TheVariants.{BadSuper, BadSize, BadList, BadTable, BadOwner, TwiceOwned}
 use Rattle.slot_layout.specs.Gate.{is_open}
-use Rattle.image_layout.specs.Owners.{MayOwn, Owner}
+use Rattle.image_layout.specs.Owners.{MayOwn}
 use Rattle.image_layout.specs.Opens.{IsDivided}
 use Rattle.image_layout.specs.Refusal.{IsOfDivision, IsRefused}
 use Rattle.slot_layout.specs.Slots.{block_at, gate}
 use Rattle.nesc_base.specs.Geometry.{total}
+use Rattle.nesc_base.specs.Places.{Owner}
 use Rattle.image_layout.proofs.OneMap.{slice_get-among}
 use Rattle.image_layout.proofs.OneFault.{opens_as_nothing}
 use Rattle.image_layout.proofs.OneReading.{one_superblock}

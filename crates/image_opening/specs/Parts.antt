@@ -4,13 +4,13 @@ use Rattle.nesc_base.specs.declared.block.Block.{Block}
 use Rattle.nesc_base.specs.declared.geometry.Geometry.{Geometry}
 use Rattle.nesc_base.specs.Files.{Files}
 use Rattle.nesc_base.specs.Geometry.{block_owners, map_blocks, table_at}
-use Rattle.nesc_base.specs.Places.{Places}
+use Rattle.nesc_base.specs.Places.{Owner, Places}
 use Rattle.image_layout.specs.declared.fault.ImageFault.{ImageFault}
 use Rattle.image_layout.specs.declared.fault.ImageFault.TheVariants.{BadList}
 use Rattle.image_layout.specs.declared.table.TableEntry.{TableEntry}
 use Rattle.slot_layout.specs.Gate.{is_open}
 use Rattle.image_layout.specs.Opens.{IsDivided, IsMap, Opens, lengths_of}
-use Rattle.image_layout.specs.Owners.{MayOwn, Owner}
+use Rattle.image_layout.specs.Owners.{MayOwn}
 use Rattle.image_layout.specs.Refusal.{IsRefused}
 use Rattle.slot_layout.specs.Slots.{block_at, gate}
 use Rattle.image_layout.specs.Table.{IsTable}

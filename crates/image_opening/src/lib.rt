@@ -6,6 +6,3 @@ mod parts;
 
 pub use laws::refused_once;
 pub use parts::{Parts, read_block, read_parts};
-
-#[cfg(test)]
-mod tests;

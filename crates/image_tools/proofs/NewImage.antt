@@ -16,9 +16,9 @@ use Rattle.slot_layout.specs.Bytes.{block_of_bytes, spelled}
 use Rattle.slot_layout.specs.Gate.{is_open}
 use Rattle.slot_layout.proofs.Alike.{zero_gate}
 use Rattle.image_layout.specs.Opens.{HasParts, entries_in, lengths_of}
-use Rattle.image_layout.specs.Owners.{AreOwners, Owner, owner_block, owner_bytes}
+use Rattle.image_layout.specs.Owners.{AreOwners, owner_block, owner_bytes}
 use Rattle.slot_layout.specs.Slots.{Lays, block_at}
-use Rattle.nesc_base.specs.Places.{HeldAt}
+use Rattle.nesc_base.specs.Places.{HeldAt, Owner}
 use Rattle.std.proofs.lemmas.Bool.{false≢true}
 use Rattle.image_layout.specs.Super.{superblock}
 use Rattle.image_layout.specs.Table.{AreEntries, Fits, entry_bytes, table_block}

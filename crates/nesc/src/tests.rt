@@ -1,6 +1,7 @@
 mod making;
 mod opening;
 mod running;
+mod tracing;
 
 use nesc_base::{Block, NoMemory};
 use nesc_fakes::{MemDisk, MemSink, MemSource};

@@ -26,14 +26,12 @@ pub trait Runs {
     /// The runs.
     ghost runs: { Self → List Run };
 
-    /// How many there are.
+    /// How many there are. They are the maximal runs of a file.
     fn count(&self) -> u32
-        ensures { result ≡ length (runs self.now) };
+        ensures count { result ≡ length (runs self.now) }
+        ensures are { AreRuns (runs self.now) };
 
     /// The run at a place, counted from 0, or `None` past the last.
     fn run(&self, k: u32) -> Option<Run>
         ensures { result ≡ slice_get (runs self.now) k };
-
-    /// They are the maximal runs of a file.
-    ghost are_runs: { (r : Self) → AreRuns (runs r) };
 }

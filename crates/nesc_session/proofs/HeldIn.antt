@@ -1,8 +1,8 @@
 -- How many data blocks are held, from one on.
 use Rattle.std.proofs.Common.{◌≡◌, ℕ, zero, suc, ◌+◌, ◌≤◌, List, [], ◌∷◌, Option, Some, None, drop, length, slice_get, ap, ◌∙◌, arith}
 use Rattle.std.proofs.lemmas.Option.{none-some, same_Some}
-use Rattle.image_layout.specs.Owners.{Owner}
 use Rattle.nesc_session.specs.Loading.{held_in}
+use Rattle.nesc_base.specs.Places.{Owner}
 
 -- a data block that is free is none of those held from it on
 pub held_in-free : (owners : List (Option Owner)) (k : ℕ) → slice_get owners k ≡ Some None → held_in (drop k owners) ≡ held_in (drop (k + 1) owners)

@@ -9,8 +9,8 @@ use Rattle.nesc_base.specs.declared.geometry.Geometry.{Geometry}
 use Rattle.nesc_base.specs.Files.{File, Files}
 use Rattle.nesc_base.proofs.Maps.{get-insert_other, get-insert_same}
 use Rattle.nesc_base.proofs.Numbered.{get_from}
+use Rattle.nesc_base.specs.Places.{Owner}
 use Rattle.image_layout.specs.declared.table.TableEntry.{TableEntry}
-use Rattle.image_layout.specs.Owners.{Owner}
 use Rattle.image_opening.specs.Parts.{MayAllOwn}
 use Rattle.nesc_session.specs.FilesInMemory.{WritesBlocks, stored_file, files_of}
 

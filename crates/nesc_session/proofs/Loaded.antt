@@ -13,10 +13,10 @@ use Rattle.nesc_base.specs.Files.{File, Files, file_at}
 use Rattle.nesc_base.specs.Geometry.{area_from, total}
 use Rattle.nesc_base.proofs.Maps.{get-insert_other, get-insert_same}
 use Rattle.nesc_base.proofs.Numbered.{found, get_before}
+use Rattle.nesc_base.specs.Places.{Owner}
 use Rattle.file_model.specs.Files.{holds}
 use Rattle.image_layout.specs.declared.table.TableEntry.{TableEntry}
 use Rattle.image_layout.specs.Opens.{AreFiles, IsHeld, Repeats}
-use Rattle.image_layout.specs.Owners.{Owner}
 use Rattle.image_layout.specs.Refusal.{DoesNotOpen}
 use Rattle.image_layout.specs.declared.fault.ImageFault.TheVariants.{TwiceOwned}
 use Rattle.slot_layout.specs.Slots.{block_at}

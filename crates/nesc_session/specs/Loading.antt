@@ -3,8 +3,8 @@ use Rattle.std.specs.Prelude.{◌≡◌, ℕ, true, false, List, [], ◌∷◌, 
 use Rattle.nesc_base.specs.declared.block.Block.{Block}
 use Rattle.nesc_base.specs.Disk.{Known}
 use Rattle.nesc_base.specs.Files.{Files, file_at}
+use Rattle.nesc_base.specs.Places.{Owner}
 use Rattle.file_model.specs.Files.{holds}
-use Rattle.image_layout.specs.Owners.{Owner}
 use Rattle.slot_layout.specs.Slots.{block_at}
 use Rattle.nesc_session.specs.FilesInMemory.{WritesBlocks}
 

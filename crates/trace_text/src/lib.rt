@@ -6,6 +6,3 @@ mod trace;
 
 pub use pieces::{Piece, write_pieces};
 pub use trace::{write_done, write_end, write_step};
-
-#[cfg(test)]
-mod tests;

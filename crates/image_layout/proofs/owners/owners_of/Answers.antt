@@ -1,9 +1,10 @@
 use Rattle.std.proofs.Common.{◌≡◌, ℕ, Option, Some, IfSome, slice_get, ap, ◌∙◌, arith, length-set}
 use Rattle.std.proofs.lemmas.Option.{slice_get_within}
-use Rattle.image_layout.specs.Owners.{MayOwn, Owner, owner_block, owner_bytes}
+use Rattle.image_layout.specs.Owners.{MayOwn, owner_block, owner_bytes}
 use Rattle.slot_layout.proofs.Pieces.{HoldsBelow-more, piece, spelled_from_pieces}
 use Rattle.image_layout.proofs.OwnersLemmas.{owner_at}
 use Rattle.image_layout.proofs.owners.owners_of.Goals as goal
+use Rattle.nesc_base.specs.Places.{Owner}
 
 pub returns-in_err-owners : goal.returns-in_err-owners
 returns-in_err-owners c =

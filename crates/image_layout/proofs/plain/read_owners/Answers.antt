@@ -1,9 +1,9 @@
 use Rattle.std.proofs.Common.{◌≡◌, ℕ, ◌+◌, ◌*◌, ◌<◌, [], Err, List, Option, length, take, drop, get_or, subst, sym, ap, ◌∙◌, arith, length-append, rules}
 use Rattle.nesc_base.specs.Geometry.{map_at}
+use Rattle.nesc_base.specs.Places.{Owner}
 use Rattle.image_layout.specs.declared.fault.ImageFault.TheVariants.{BadOwner}
 use Rattle.image_layout.specs.declared.fault.OpenFault.TheVariants.{Image}
 use Rattle.image_layout.specs.Opens.{IsMapBlock}
-use Rattle.image_layout.specs.Owners.{Owner}
 use Rattle.image_layout.specs.Refusal.{IsRefused, LacksOwners}
 use Rattle.slot_layout.specs.Slots.{block_at}
 use Rattle.image_layout.proofs.MapBlocks.{each_more}

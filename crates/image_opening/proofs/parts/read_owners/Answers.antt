@@ -3,10 +3,10 @@ use Rattle.nesc_base.specs.declared.block.Block.{Block}
 use Rattle.nesc_base.specs.Disk.{Known}
 use Rattle.nesc_base.specs.Geometry.{map_at}
 use Rattle.nesc_base.proofs.DiskCalls.{goes_on, unchanged_on}
+use Rattle.nesc_base.specs.Places.{Owner}
 use Rattle.image_layout.specs.declared.fault.ImageFault.TheVariants.{BadOwner}
 use Rattle.image_layout.specs.declared.fault.OpenFault.TheVariants.{Image}
 use Rattle.image_layout.specs.Opens.{IsMapBlock, lengths_of}
-use Rattle.image_layout.specs.Owners.{Owner}
 use Rattle.image_layout.specs.Refusal.{DoesNotOpen, LacksOwners}
 use Rattle.slot_layout.specs.Slots.{block_at}
 use Rattle.image_layout.proofs.MapBlocks.{each_more}

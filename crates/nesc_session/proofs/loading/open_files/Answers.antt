@@ -6,10 +6,10 @@ use Rattle.nesc_base.specs.Disk.{Known}
 use Rattle.nesc_base.specs.Files.{Files}
 use Rattle.nesc_base.specs.Geometry.{area_from, total}
 use Rattle.nesc_base.proofs.DiskCalls.{goes_on, unchanged_on}
+use Rattle.nesc_base.specs.Places.{Owner}
 use Rattle.image_layout.specs.declared.fault.OpenFault.TheVariants.{Image}
 use Rattle.image_layout.specs.declared.table.TableEntry.{TableEntry}
 use Rattle.image_layout.specs.Opens.{Repeats}
-use Rattle.image_layout.specs.Owners.{Owner}
 use Rattle.image_opening.specs.Parts.{AreParts, IsRefusedSoFar, MayAllOwn}
 use Rattle.nesc_session.specs.FilesInMemory.{files_of}
 use Rattle.image_opening.proofs.PartsLemmas.{block_here, closed_here}

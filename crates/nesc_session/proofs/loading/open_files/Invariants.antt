@@ -2,8 +2,8 @@ use Rattle.std.proofs.Common.{◌≡◌, ℕ, ◌+◌, ◌<◌, ◌≤◌, drop,
 use Rattle.nesc_base.specs.declared.geometry.Geometry.{Geometry}
 use Rattle.nesc_base.specs.Disk.{Goes, Unchanged}
 use Rattle.nesc_base.specs.Geometry.{area_from}
+use Rattle.nesc_base.specs.Places.{Owner}
 use Rattle.image_layout.specs.Opens.{Repeats}
-use Rattle.image_layout.specs.Owners.{Owner}
 use Rattle.nesc_session.specs.Loading.{held_in}
 use Rattle.nesc_session.proofs.KeptNames.{KeepsNames}
 use Rattle.nesc_session.proofs.Loaded.{AreHeld}

@@ -1,0 +1,12 @@
+pub mod Among
+pub mod BitLemmas
+pub mod Counting
+pub mod Cutting
+pub mod Finding
+pub mod Freed
+pub mod Joining
+pub mod OfFile
+pub mod Parts
+pub mod RunLists
+pub mod SoundMap
+pub mod Sounding

@@ -1,0 +1,28 @@
+-- The word that is written has one bit on, and the bits of the others are as before. The hint sinks to it.
+use Rattle.std.proofs.Common.{◌<◌, ◌*◌, ◌∙◌, Bool, true, List, length, slice_set, ap, arith}
+use Rattle.block_map.proofs.free_bits.FreeBits.set.Goals as goal
+use Rattle.block_map.proofs.BitLemmas.{length_view, view_of_edit, bits_after_edit, edit_by_set}
+
+pub index_mut-requires : goal.index_mut-requires
+index_mut-requires c =
+    let b = c.self.inside in
+    omega (arith, ap length c.self.view_is, length_view b.words.items b.len, b.words.ok.0, c.self.invariant.enough)
+
+pub invariant_of-self : goal.invariant_of-self
+invariant_of-self c =
+    let b = c.self.inside in
+    let inside : c.args.k < b.len = omega (arith, ap length c.self.view_is, length_view b.words.items b.len) in
+    let there : c.args.k < 64 * length b.words.items = omega (arith, c.self.invariant.enough) in
+    bits_after_edit b.words.items _ b.len b.hint c.args.k true c.min-self-inside.result c.self.invariant inside
+    (edit_by_set b.words.items c.args.k _ there c.index_mut.ensures.value)
+    (omega arith)
+    (λ e. omega arith)
+
+pub returns : goal.returns
+returns c =
+    let b = c.self.inside in
+    let inside : c.args.k < b.len = omega (arith, ap length c.self.view_is, length_view b.words.items b.len) in
+    let there : c.args.k < 64 * length b.words.items = omega (arith, c.self.invariant.enough) in
+    view_of_edit b.words.items _ b.len c.args.k true inside
+    (edit_by_set b.words.items c.args.k _ there c.index_mut.ensures.value)
+    ∙ ap (λ (bits : List Bool). slice_set bits c.args.k true) c.self.view_is

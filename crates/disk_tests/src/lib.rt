@@ -1,0 +1,9 @@
+//! Tests of what reads and writes a disk, over disks in memory.
+#![tactic(auto)]
+
+#[cfg(test)]
+mod data_blocks;
+#[cfg(test)]
+mod journal;
+#[cfg(test)]
+mod opening;

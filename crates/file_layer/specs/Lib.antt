@@ -1,0 +1,9 @@
+pub mod Answers
+pub mod Changing
+pub mod Filling
+pub mod Knowing
+pub mod Layer
+pub mod Loading
+pub mod Showing
+pub mod Staging
+pub mod TakingBack
