@@ -1,11 +1,11 @@
 -- Where the blocks of a file stand among runs.
-use Rattle.std.proofs.Common.{◌≡◌, ◌⊎◌, ◌↔◌, inl, inr, ℕ, ◌+◌, ◌-◌, ◌<◌, ◌≤◌, max, List, Option, Some, None, MatchOption, slice_get, refl, sym, ap, ◌∙◌, subst, arith}
+use Rattle.std.proofs.Common.{◌≡◌, ◌⊎◌, ◌↔◌, inl, inr, ℕ, ◌+◌, ◌-◌, ◌<◌, max, List, Option, Some, None, MatchOption, slice_get, refl, sym, ap, ◌∙◌, subst, arith}
 use Rattle.std.proofs.lemmas.Bool.{cases_order}
 use Rattle.std.proofs.lemmas.Option.{same_Some}
 use Rattle.nesc_base.specs.declared.runs.Run.{Run}
-use Rattle.nesc_base.specs.Runs.{IsBehind, IsIn, IsRun}
+use Rattle.nesc_base.specs.Runs.{IsBehind}
 use Rattle.block_map.specs.declared.held_runs.HeldRun.{HeldRun}
-use Rattle.block_map.specs.Map.{BlockMap, HoldsNone, HoldsNoneFrom, IsLastHeld, IsNextHeld, IsNextRun, IsRunOf, StandsAt}
+use Rattle.block_map.specs.Map.{BlockMap, IsLastHeld, IsNextHeld, IsNextRun, IsRunOf, StandsAt}
 use Rattle.block_map.specs.Runs.{AreHeldRuns, IsAmong, IsLastAmong, IsNextAmong, IsOneOf}
 
 -- what follows from each of two cases

@@ -1,12 +1,11 @@
 -- Which data blocks are free, by the bits.
-use Rattle.std.proofs.Common.{◌≡◌, ℕ, ◌+◌, ◌-◌, ◌<◌, ◌≤◌, Bool, true, false, List, Option, Some, None, length, map, slice_get, refl, sym, ap, ◌∙◌, arith}
+use Rattle.std.proofs.Common.{◌≡◌, ℕ, ◌+◌, ◌-◌, ◌<◌, Bool, true, false, List, Option, Some, None, length, map, slice_get, refl, sym, ap, ◌∙◌, arith}
 use Rattle.std.specs.Prelude.{is_none}
 use Rattle.std.specs.Option.{option_map}
 use Rattle.std.proofs.lemmas.Bool.{false≢true}
 use Rattle.std.proofs.lemmas.Option.{none-some, same_Some, slice_get-map, slice_get_within}
-use Rattle.nesc_base.specs.Places.{Owner}
 use Rattle.block_map.specs.Bits.{AreClear, IsLowestSet}
-use Rattle.block_map.specs.Map.{BlockMap, IsFreeAt, IsFull, IsLowestFree}
+use Rattle.block_map.specs.Map.{BlockMap, IsFull, IsLowestFree}
 
 -- a bit is set where nobody owns the data block
 set_bit : {X : Type 0} (owners : List (Option X)) (bits : List Bool) (k : ℕ) → bits ≡ map is_none owners → slice_get owners k ≡ Some None → slice_get bits k ≡ Some true

@@ -1,6 +1,6 @@
 -- What is kept in memory is a map.
-use Rattle.std.proofs.Common.{◌≡◌, ℕ, subst}
-use Rattle.nesc_base.specs.Places.{IsOwned, Owner}
+use Rattle.std.proofs.Common.{ℕ, subst}
+use Rattle.nesc_base.specs.Places.{Owner}
 use Rattle.std.proofs.Common.{List, Option, Bool}
 use Rattle.block_map.specs.declared.held_runs.HeldRun.{HeldRun}
 use Rattle.block_map.specs.Map.{BlockMap, IsMap, MayHold}

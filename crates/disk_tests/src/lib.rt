@@ -4,6 +4,8 @@
 #[cfg(test)]
 mod data_blocks;
 #[cfg(test)]
+mod files;
+#[cfg(test)]
 mod journal;
 #[cfg(test)]
 mod opening;
