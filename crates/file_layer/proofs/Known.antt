@@ -1,12 +1,12 @@
 -- What files in memory say of the files that they are: which blocks are held, how many, and how many are free.
-use Rattle.std.proofs.Common.{inl, inr, ◌≡◌, ◌↔◌, ℕ, zero, suc, ◌+◌, ◌-◌, ◌<◌, Bool, true, false, ◌++◌, List, [], ◌∷◌, Option, Some, None, option_map, replicate, slice_get, refl, sym, ap, ◌∙◌, subst, arith}
+use Rattle.std.proofs.Common.{inl, inr, ◌≡◌, ◌↔◌, ℕ, ◌+◌, ◌-◌, ◌<◌, Bool, true, false, [], Option, Some, None, option_map, slice_get, refl, sym, ap, ◌∙◌, subst, arith}
 use Rattle.std.specs.Prelude.{IsSome, is_some, nat_lt, not, unwrap_or}
 use Rattle.std.specs.FinMap.{empty, entries, entries_sorted, get, get-empty, get-entries, len}
 use Rattle.std.specs.List.{filter, range_with_len, sum_by}
 use Rattle.std.specs.Ordering.{nat_cmp}
 use Rattle.std.specs.Option.{MatchOption, option_and_then}
 use Rattle.std.proofs.lemmas.Bool.{cases_Bool, false≢true}
-use Rattle.std.proofs.lemmas.Option.{none-some, same_Some, slice_get-map}
+use Rattle.std.proofs.lemmas.Option.{none-some, slice_get-map}
 use Rattle.nesc_base.specs.declared.block.Block.{Block}
 use Rattle.nesc_base.specs.Geometry.{area_from}
 use Rattle.image_layout.proofs.OpenedFiles.{some_there}
@@ -17,6 +17,7 @@ use Rattle.file_model.specs.Files.{free, held_in, holds, unheld, unheld_below}
 use Rattle.image_layout.specs.declared.table.TableEntry.{TableEntry}
 use Rattle.image_layout.specs.Opens.{lengths_of}
 use Rattle.image_layout.specs.Owners.{MayOwn}
+use Rattle.file_layer.proofs.Padded.{stands_in_front, stands_with_more}
 use Rattle.file_layer.specs.Knowing.{FileSet, Knows}
 use Rattle.file_layer.specs.Layer.{IsLayer, Layer, entry_of, is_held, lacking, lacking_below}
 use Rattle.file_layer.proofs.NamedFiles.{entry_at_number, file_of_entry, mapped}
@@ -32,24 +33,6 @@ owns_some None v at owns = absurd (none-some at owns)
 owns_some (Some held) v at owns = refl
 
 -- Owners
-
--- none is behind those of the data blocks
-nobody : (m k : ℕ) (owner : Owner) → ¬ (slice_get (replicate m None) k ≡ Some (Some owner))
-nobody zero k owner is = none-some (Some owner) is
-nobody (suc m) zero owner is = none-some owner (same_Some None (Some owner) is)
-nobody (suc m) (suc k) owner is = nobody m k owner is
-
--- so each is one of those
-among : (owners : List (Option Owner)) (m k : ℕ) (owner : Owner) → slice_get (owners ++ replicate m None) k ≡ Some (Some owner) → slice_get owners k ≡ Some (Some owner)
-among [] m k owner is = absurd (nobody m k owner is)
-among (o ∷ owners) m zero owner is = is
-among (o ∷ owners) m (suc k) owner is = among owners m k owner is
-
--- which stand there still
-still : {X : Type 0} (xs ys : List X) (k : ℕ) (x : X) → slice_get xs k ≡ Some x → slice_get (xs ++ ys) k ≡ Some x
-still [] ys k x is = absurd (none-some x is)
-still (y ∷ xs) ys zero x is = is
-still (y ∷ xs) ys (suc k) x is = still xs ys k x is
 
 -- an owner is a file that has the block
 pub owner_used : (files : Layer) → IsLayer files → (k : ℕ) (owner : Owner) → slice_get files.map.owners k ≡ Some (Some owner)
@@ -104,12 +87,12 @@ module _ (files : Layer) (set : FileSet) (places : Places) (layer : IsLayer file
         let owned = (knows.placed.each n v at some).0 owns in
         let from = layer.from in
         let place : at ≡ files.map.from + owned.0 = omega (arith, owned.5) in
-        (owned.0, owned.1, among files.map.owners _ owned.0 owned.1 owned.2, owned.3, owned.4, place),
+        (owned.0, owned.1, stands_in_front files.map.owners _ owned.0 owned.1 owned.2, owned.3, owned.4, place),
     λ stands.
         let from = layer.from in
         let place : at ≡ area_from files.geometry + stands.0 = omega (arith, stands.5) in
         (knows.placed.each n v at (file_stands n v at stands)).1
-        (stands.0, stands.1, still files.map.owners _ stands.0 (Some stands.1) stands.2, stands.3, stands.4, place),
+        (stands.0, stands.1, stands_with_more files.map.owners _ stands.0 (Some stands.1) stands.2, stands.3, stands.4, place),
   )
 
   -- what is held of a file that there is, and of one that there is not

@@ -1,23 +1,12 @@
 -- The owners that the map blocks have: those of the data blocks, and none for the rest of the last map block.
-use Rattle.std.proofs.Common.{◌≡◌, ℕ, zero, suc, ◌-◌, ◌*◌, ◌<◌, List, [], ◌∷◌, ◌++◌, Option, Some, None, length, replicate, slice_get, arith, length-append}
+use Rattle.std.proofs.Common.{◌≡◌, ℕ, ◌-◌, ◌*◌, ◌<◌, Option, Some, None, length, replicate, slice_get, arith, length-append}
 use Rattle.std.proofs.lemmas.List.{length-replicate}
-use Rattle.std.proofs.lemmas.Option.{none-some, same_Some, slice_get_within}
+use Rattle.std.proofs.lemmas.Option.{slice_get_within}
 use Rattle.nesc_base.specs.Geometry.{block_owners, map_blocks}
 use Rattle.nesc_base.specs.Places.{Owner}
 use Rattle.image_layout.specs.Opens.{Repeats}
 use Rattle.file_layer.specs.Layer.{IsLayer, Layer, owners_of}
-
--- nothing stands among none
-none_replicated : {X : Type 0} (n k : ℕ) (x : X) → ¬ (slice_get (replicate n None) k ≡ Some (Some x))
-none_replicated zero k x is = none-some (Some x) is
-none_replicated (suc n) zero x is = none-some x (same_Some None (Some x) is)
-none_replicated (suc n) (suc k) x is = none_replicated n k x is
-
--- so what stands in a list with none behind it stands in the list
-stands_in_front : {X : Type 0} (xs : List (Option X)) (n k : ℕ) (x : X) → slice_get (xs ++ replicate n None) k ≡ Some (Some x) → slice_get xs k ≡ Some (Some x)
-stands_in_front [] n k x is = absurd (none_replicated n k x is)
-stands_in_front (y ∷ ys) n zero x is = is
-stands_in_front (y ∷ ys) n (suc k) x is = stands_in_front ys n k x is
+use Rattle.file_layer.proofs.Padded.{stands_in_front}
 
 module _ (files : Layer) (layer : IsLayer files) where
   -- the map blocks are full

@@ -21,6 +21,7 @@ pub mod NothingLeft
 pub mod OwnedBlocks
 pub mod OwnersSet
 pub mod OwnersStanding
+pub mod Padded
 pub mod Passing
 pub mod Placing
 pub mod PutBlocks
@@ -35,5 +36,6 @@ pub mod SoFar
 pub mod SomeFiles
 pub mod Spaces
 pub mod StagedMap
+pub mod StillTogether
 pub mod Tabling
 pub mod TakingBack

@@ -1,6 +1,8 @@
 use Rattle.file_layer.proofs.KeptWhole.{keeps_whole, rests_on}
 use Rattle.file_layer.proofs.PutBlocks.{puts_at}
 use Rattle.file_layer.proofs.ShownOpens.{stays_on}
+use Rattle.file_layer.proofs.ReadBlocks.{files_rest_on}
+use Rattle.file_layer.proofs.StillTogether.{commits_on}
 use Rattle.file_layer.proofs.laws.files_stay.Goals as goal
 
 pub returns-clause-puts : goal.returns-clause-puts
@@ -14,3 +16,9 @@ returns-clause-rests g c old new disk = rests_on old new _
 
 pub returns-clause-changes : goal.returns-clause-changes
 returns-clause-changes g c old new before after disk = stays_on old new before after _ (g.met.D.Disk.reads_whole disk)
+
+pub returns-clause-reads : goal.returns-clause-reads
+returns-clause-reads g c files journal old new = files_rest_on files journal _ _
+
+pub returns-clause-commits : goal.returns-clause-commits
+returns-clause-commits g c files journal old new clock = commits_on files journal _ _ clock
