@@ -17,7 +17,7 @@ use Rattle.image_layout.specs.declared.table.TableEntry.{TableEntry}
 use Rattle.host_journal.specs.Staged.{Staged}
 use Rattle.file_model.specs.Files.{Holds, LeadsTo, holding, with_zeros}
 use Rattle.file_model.specs.Places.{Gives, IsLowestFree, with_place}
-use Rattle.file_model.specs.PlainFile.{with_block}
+use Rattle.file_model.specs.Files.{with_block}
 use Rattle.file_model.proofs.Writing.{IsSome-insert}
 use Rattle.file_layer.specs.Changing.{AreFilled}
 use Rattle.file_layer.specs.Filling.{FillsBut, left_of, nothing_left}

@@ -21,7 +21,7 @@ use Rattle.image_layout.specs.Table.{IsTable}
 use Rattle.host_journal.specs.Staged.{Staged, fresh_of, now_of, targets_of}
 use Rattle.host_journal.proofs.Overlaid.{stages_one}
 use Rattle.file_model.specs.Places.{IsLowestFree, with_place}
-use Rattle.file_model.specs.PlainFile.{with_block}
+use Rattle.file_model.specs.Files.{with_block}
 use Rattle.file_layer.specs.Knowing.{FileSet, Knows, entry_for}
 use Rattle.file_layer.specs.Layer.{IsLayer, Layer, area_of, entry_of, owners_of}
 use Rattle.file_layer.specs.Staging.{IsLeft, Left, ShowsBut, map_block, marking}

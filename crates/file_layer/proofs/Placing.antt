@@ -11,7 +11,7 @@ use Rattle.nesc_base.specs.Files.{File, Files}
 use Rattle.nesc_base.specs.Places.{HeldAt, Owner, Places, place_of}
 use Rattle.nesc_base.proofs.Maps.{get-insert_other, get-insert_same}
 use Rattle.file_model.specs.Places.{held_at, with_place}
-use Rattle.file_model.specs.PlainFile.{with_block}
+use Rattle.file_model.specs.Files.{with_block}
 
 -- one pair of numbers or another
 pub cases_both : (m n w v : ℕ) → ((m ≡ n) × (w ≡ v)) ⊎ (¬ ((m ≡ n) × (w ≡ v)))

@@ -16,7 +16,7 @@ use Rattle.host_journal.specs.Journal.{IsJournal, Journal, staging}
 use Rattle.host_journal.specs.Staged.{MayStage, Staged}
 use Rattle.host_journal.proofs.Belonging.{stay_sound}
 use Rattle.file_model.specs.Files.{LeadsTo, Puts, puts_from}
-use Rattle.file_model.specs.PlainFile.{with_block}
+use Rattle.file_model.specs.Files.{with_block}
 use Rattle.file_model.proofs.Writing.{puts_more}
 use Rattle.file_layer.specs.Changing.{GoesOn, IsOfBlocks, Stages}
 use Rattle.file_layer.specs.Filling.{PutsBut, left_of}

@@ -1,11 +1,10 @@
 -- A file is shorter once its blocks from one on are given back.
-use Rattle.std.proofs.Common.{◌≡◌, ◌↔◌, ◌⊎◌, inl, inr, ℕ, ◌+◌, ◌-◌, ◌*◌, ◌/◌, ◌<◌, ◌≤◌, ◌==◌, Bool, true, false, cond, Equal, List, ◌++◌, Option, None, Some, IsSome, drop, length, option_map, replicate, slice_get, take, refl, sym, ap, ◌∙◌, subst, arith, length-take}
+use Rattle.std.proofs.Common.{◌≡◌, ◌↔◌, ◌⊎◌, inl, inr, ℕ, ◌+◌, ◌-◌, ◌*◌, ◌/◌, ◌<◌, ◌≤◌, ◌==◌, Bool, List, ◌++◌, Option, None, Some, IsSome, drop, length, option_map, replicate, slice_get, take, refl, sym, ap, ◌∙◌, subst, arith, length-take}
 use Rattle.std.specs.Prelude.{if◌then◌else◌, is_some, nat_lt, unwrap_or}
-use Rattle.std.specs.FinMap.{FinMap, empty, get, get-empty, get-retain_keys, insert, nat_cmp-IsAntisymmetric, retain_keys}
+use Rattle.std.specs.FinMap.{empty, get, get-empty, insert, retain_keys}
 use Rattle.std.specs.Option.{option_and_then}
 use Rattle.std.specs.Ordering.{nat_cmp}
 use Rattle.std.proofs.lemmas.Bool.{cases_eq, cases_lt, false≢true}
-use Rattle.std.proofs.lemmas.Bool.Decides.{nat_tests}
 use Rattle.std.proofs.lemmas.Option.{none-some, same_Some, slice_get_past}
 use Rattle.nesc_base.specs.declared.block.Block.{Block}
 use Rattle.nesc_base.specs.Block.{zero_block}
@@ -17,6 +16,7 @@ use Rattle.nesc_base.proofs.Maps.{get-insert_other, get-insert_same}
 use Rattle.block_map.specs.Map.{HoldsNoneFrom, StandsAt}
 use Rattle.file_model.specs.Files.{below}
 use Rattle.file_model.specs.Places.{cut_at, held_at}
+use Rattle.file_model.proofs.BelowEnd.{get-below_gone, get-below_kept}
 use Rattle.slot_layout.specs.Slots.{block_at}
 use Rattle.image_layout.specs.Owners.{owner_block}
 use Rattle.image_layout.specs.Table.{IsTable}
@@ -35,21 +35,6 @@ use Rattle.file_layer.proofs.Known.{owns_where_stands}
 use Rattle.file_layer.proofs.OwnersStanding.{alike_with_more, placed_as_stands}
 use Rattle.file_layer.proofs.NothingLeft.{none_left, nothing}
 use Rattle.file_layer.proofs.Shown.{shows_ends}
-
--- What lies below an end
-
-module _ {X : Type 0} (m : FinMap nat_cmp X) (end v : ℕ) where
-  one_test : (x : ℕ) → nat_cmp v x ≡ Equal → nat_lt x end ≡ nat_lt v end
-  one_test x tied = ap (λ w. nat_lt w end) (sym (nat_cmp-IsAntisymmetric v x tied))
-
-  get-below : get (retain_keys m (λ w. nat_lt w end)) v ≡ cond (nat_lt v end) (get m v) None
-  get-below = get-retain_keys m (λ w. nat_lt w end) v one_test
-
-  pub get-below_kept : v < end → get (retain_keys m (λ w. nat_lt w end)) v ≡ get m v
-  get-below_kept less = let is : nat_lt v end ≡ true = grind (arith, nat_tests) in get-below ∙ ap (λ b. cond b (get m v) None) is
-
-  pub get-below_gone : end ≤ v → get (retain_keys m (λ w. nat_lt w end)) v ≡ None
-  get-below_gone past = let is : nat_lt v end ≡ false = grind (arith, nat_tests) in get-below ∙ ap (λ b. cond b (get m v) None) is
 
 -- where the blocks of a file stand, or of one that is not there
 get-held_at : (o : Option HeldAt) (v : ℕ) → get (unwrap_or o empty) v ≡ option_and_then (λ (held : HeldAt). get held v) o

@@ -64,15 +64,19 @@ free blocks files = blocks - held_in files
 
 -- Changes
 
--- a change of files: a file is made under a number, or a file comes to hold blocks, or a held block is written
+-- a change of files: a file is made under a number, goes, or gets another length; or it comes to hold blocks, or a held
+-- block is written
 pub data Change : Type 0 where
   create : (n : ℕ) (name : List ℕ) (length : ℕ) → Change
+  delete : (n : ℕ) → Change
+  resize : (n length : ℕ) → Change
   hold : (n : ℕ) (blocks : List ℕ) → Change
   put : (n v : ℕ) (block : Block) → Change
 
--- a file that is made has a name and is not too long
+-- a file that is made has a name and is not too long, nor is one that gets another length
 abbrev pub MayChange : Change → Type 0
 MayChange (create n name length) = IsTrue (is_name name) × (length ≤ longest_file)
+MayChange (resize n length) = length ≤ longest_file
 MayChange change = Unit {0}
 
 -- the lowest unused number gets the file, which holds nothing
@@ -110,16 +114,22 @@ pub record Holds (old : Files) (n : ℕ) (blocks : List ℕ) (new : Files) : Typ
   pub apart : IsDistinct nat_eq blocks
   pub result : new ≡ insert old n (record file { body = with_zeros file.body blocks })
 
+-- the file that holds this block at v
+abbrev pub with_block : File → ℕ → Block → File
+with_block file v block = record file { body = insert file.body v block }
+
 -- a block that is held is this one now
 pub record Puts (old : Files) (n v : ℕ) (block : Block) (new : Files) : Type 0 where
   pub file : File
   pub stands : get old n ≡ Some file
   pub held : IsSome (get file.body v)
-  pub result : new ≡ insert old n (record file { body = insert file.body v block })
+  pub result : new ≡ insert old n (with_block file v block)
 
 -- the change leads from the old files to the new ones, and nothing else moves
 abbrev pub Changes : Files → Change → Files → Type 0
 Changes old (create n name length) new = Creates old n name length new
+Changes old (delete n) new = Deletes old n new
+Changes old (resize n length) new = Resizes old n length new
 Changes old (hold n blocks) new = Holds old n blocks new
 Changes old (put n v block) new = Puts old n v block new
 
@@ -146,9 +156,11 @@ is_put n v [] = false
 is_put n v (put m at block ∷ changes) = (m == n && at == v) || is_put n v changes
 is_put n v (change ∷ changes) = is_put n v changes
 
--- how many blocks the changes stage: each that comes to be held and each that is put, one that is both once
+-- how many data blocks the changes stage: each that comes to be held and each that is put, one that is both once
 abbrev pub staged : List Change → ℕ
 staged [] = 0
 staged (create n name length ∷ changes) = staged changes
+staged (delete n ∷ changes) = staged changes
+staged (resize n length ∷ changes) = staged changes
 staged (hold n blocks ∷ changes) = length (filter (λ v. not (is_put n v changes)) blocks) + staged changes
 staged (put n v block ∷ changes) = 1 + staged changes

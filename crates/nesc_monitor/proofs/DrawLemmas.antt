@@ -4,31 +4,31 @@ use Rattle.std.proofs.lemmas.List.Sums.{sum_by-cons}
 use Rattle.std.proofs.lemmas.Option.{same_Some}
 use Rattle.std.specs.List.{sum_by}
 use Rattle.nesc_base.specs.declared.numbers.FnNo.{FnNo}
-use Rattle.nesc_requests.specs.Requests.{IsNumbered, block_count}
-use Rattle.nesc_requests.specs.Script.{Script, requests_of, with_numbered}
-use Rattle.nesc_requests.specs.declared.event.Event.{Event}
-use Rattle.nesc_requests.specs.declared.event.Event.TheVariants.{Handle, Host, Submit, Tick}
-use Rattle.nesc_requests.specs.declared.host.HostCommand.{HostCommand}
-use Rattle.nesc_requests.specs.declared.host.HostCommand.TheVariants.{Create, Put, Get, Attach}
-use Rattle.nesc_requests.specs.declared.request.Request.{Request}
-use Rattle.nesc_requests.specs.declared.request.Request.TheVariants.{Read, Write}
-use Rattle.nesc_requests.specs.declared.word.Word.{Word}
-use Rattle.nesc_requests.specs.declared.word.Word.TheVariants.{T, G, H, I}
-use Rattle.file_model.specs.Draws.{event_of, left_after, without_drawn}
-use Rattle.file_model.specs.Files.{Change}
-use Rattle.file_model.specs.Functions.{Function}
-use Rattle.file_model.specs.Machine.{Step}
-use Rattle.file_model.specs.State.{State}
-use Rattle.file_model.specs.Submissions.{Submits}
-use Rattle.file_model.specs.declared.outcome.Answer.{Answer}
-use Rattle.file_model.specs.declared.outcome.Answer.TheVariants as answer
-use Rattle.file_model.specs.declared.outcome.Outcome.{Outcome}
-use Rattle.file_model.specs.declared.setting.Setting.{Setting}
-use Rattle.script_lang.specs.CommandsText.{command_blocks, blocks_in_all}
-use Rattle.script_lang.specs.Left.{Left}
-use Rattle.script_lang.proofs.LeftLemmas.{given_back-taken}
-use Rattle.nesc_session.specs.Room.{room_brought, room_for, room_for_event, room_to_write}
-use Rattle.nesc_session.specs.Session.{MayStep}
+use Rattle.early_requests.specs.Requests.{IsNumbered, block_count}
+use Rattle.early_requests.specs.Script.{Script, requests_of, with_numbered}
+use Rattle.early_requests.specs.declared.event.Event.{Event}
+use Rattle.early_requests.specs.declared.event.Event.TheVariants.{Handle, Host, Submit, Tick}
+use Rattle.early_requests.specs.declared.host.HostCommand.{HostCommand}
+use Rattle.early_requests.specs.declared.host.HostCommand.TheVariants.{Create, Put, Get, Attach}
+use Rattle.early_requests.specs.declared.request.Request.{Request}
+use Rattle.early_requests.specs.declared.request.Request.TheVariants.{Read, Write}
+use Rattle.early_requests.specs.declared.word.Word.{Word}
+use Rattle.early_requests.specs.declared.word.Word.TheVariants.{T, G, H, I}
+use Rattle.early_model.specs.Draws.{event_of, left_after, without_drawn}
+use Rattle.early_model.specs.Files.{Change}
+use Rattle.early_model.specs.Functions.{Function}
+use Rattle.early_model.specs.Machine.{Step}
+use Rattle.early_model.specs.State.{State}
+use Rattle.early_model.specs.Submissions.{Submits}
+use Rattle.early_model.specs.declared.outcome.Answer.{Answer}
+use Rattle.early_model.specs.declared.outcome.Answer.TheVariants as answer
+use Rattle.early_model.specs.declared.outcome.Outcome.{Outcome}
+use Rattle.early_model.specs.declared.setting.Setting.{Setting}
+use Rattle.early_script.specs.CommandsText.{command_blocks, blocks_in_all}
+use Rattle.early_script.specs.Left.{Left}
+use Rattle.early_script.proofs.LeftLemmas.{given_back-taken}
+use Rattle.early_session.specs.Room.{room_brought, room_for, room_for_event, room_to_write}
+use Rattle.early_session.specs.Session.{MayStep}
 use Rattle.nesc_monitor.specs.Steps.{ComesBack, MayGiveBack, room_for_script, with_back, with_next}
 
 -- Drawing

@@ -1,7 +1,7 @@
 -- What the command `run` comes to, put together from what its parts say.
 use Rattle.std.proofs.Common.{inl, inr, List}
-use Rattle.nesc_requests.specs.Script.{Script}
-use Rattle.nesc_requests.specs.declared.word.Word.{Word}
+use Rattle.early_requests.specs.Script.{Script}
+use Rattle.early_requests.specs.declared.word.Word.{Word}
 use Rattle.nesc_monitor.specs.Running.{ComesOfRun}
 use Rattle.nesc_monitor.specs.Starting.{StartsAndTells}
 use Rattle.nesc_monitor.specs.Texts.{AreTaken, IsReadWhole, AreRefusedFor, SaysScript, SaysWords}

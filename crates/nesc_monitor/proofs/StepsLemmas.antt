@@ -4,15 +4,15 @@ use Rattle.std.specs.List.{flat_map}
 use Rattle.std.proofs.lemmas.List.Concat.{flat_map-append}
 use Rattle.nesc_base.specs.Sink.{Lent}
 use Rattle.nesc_base.specs.declared.sink.WriteFault.{WriteFault}
-use Rattle.nesc_requests.specs.Script.{Script}
-use Rattle.nesc_requests.specs.declared.word.Word.{Word}
-use Rattle.file_model.specs.Groups.{Group}
-use Rattle.file_model.specs.Laws.{IsNeverStuck}
-use Rattle.file_model.specs.Lines.{done_text, group_text}
-use Rattle.file_model.specs.State.{State}
-use Rattle.file_model.specs.Traces.{IsTrace}
-use Rattle.file_model.specs.declared.setting.Setting.{Setting}
-use Rattle.file_model.proofs.Traces.{IsTrace-append, IsTrace-length, IsTrace-none}
+use Rattle.early_requests.specs.Script.{Script}
+use Rattle.early_requests.specs.declared.word.Word.{Word}
+use Rattle.early_model.specs.Groups.{Group}
+use Rattle.early_model.specs.Laws.{IsNeverStuck}
+use Rattle.early_model.specs.Lines.{done_text, group_text}
+use Rattle.early_model.specs.State.{State}
+use Rattle.early_model.specs.Traces.{IsTrace}
+use Rattle.early_model.specs.declared.setting.Setting.{Setting}
+use Rattle.early_model.proofs.Traces.{IsTrace-append, IsTrace-length, IsTrace-none}
 use Rattle.text_kit.specs.Writes.{Writes}
 use Rattle.text_kit.proofs.WritesLemmas.{Writes-cut, Writes-nothing, Writes-same, Writes-then}
 use Rattle.nesc_monitor.specs.Steps.{TellsFirst, TellsWord, TellsWords}

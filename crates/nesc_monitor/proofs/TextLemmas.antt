@@ -1,11 +1,11 @@
 -- What was read and judged of the texts holds of what their sources had left.
 use Rattle.std.proofs.Common.{◌≡◌, ℕ, ◌≤◌, List, length, Option, Some, None, inr, subst, arith}
 use Rattle.std.proofs.lemmas.Bool.Decides.{nat_tests}
-use Rattle.nesc_requests.specs.Script.{Script}
-use Rattle.nesc_requests.specs.declared.word.Word.{Word}
-use Rattle.script_lang.specs.CommandsText.{IsCommandsText}
-use Rattle.script_lang.specs.Limits.{most_bytes}
-use Rattle.script_lang.specs.ScheduleText.{schedule_of}
+use Rattle.early_requests.specs.Script.{Script}
+use Rattle.early_requests.specs.declared.word.Word.{Word}
+use Rattle.early_script.specs.CommandsText.{IsCommandsText}
+use Rattle.early_script.specs.Limits.{most_bytes}
+use Rattle.early_script.specs.ScheduleText.{schedule_of}
 use Rattle.nesc_monitor.specs.Reading.{GivesAll, GivesTooMany, GivesWhole}
 use Rattle.nesc_monitor.specs.Texts.{IsRefusal, AreRefusedFor, SaysNoScript, SaysNoWords, SaysScript, SaysWords}
 use Rattle.nesc_monitor.specs.Watched.{Watched}

@@ -3,8 +3,8 @@ use Rattle.std.specs.Prelude.{◌≡◌, ◌⊎◌, ℕ, true, List, Option}
 use Rattle.nesc_base.specs.Sink.{Appends}
 use Rattle.text_kit.specs.Known.{AppendsPrefix}
 use Rattle.nesc_base.specs.Disk.{Known}
-use Rattle.nesc_requests.specs.Script.{Script}
-use Rattle.nesc_requests.specs.declared.word.Word.{Word}
+use Rattle.early_requests.specs.Script.{Script}
+use Rattle.early_requests.specs.declared.word.Word.{Word}
 use Rattle.image_layout.specs.declared.fault.ImageFault.{ImageFault}
 use Rattle.image_opening.specs.Parts.{IsRefusedSoFar}
 use Rattle.nesc_monitor.specs.Starting.{StartsAndTellsBy}

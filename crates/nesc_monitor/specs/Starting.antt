@@ -4,11 +4,11 @@ use Rattle.nesc_base.specs.declared.geometry.Geometry.{Geometry}
 use Rattle.nesc_base.specs.Disk.{Known}
 use Rattle.nesc_base.specs.Fault.{Rose}
 use Rattle.nesc_base.specs.Files.{Files}
-use Rattle.nesc_requests.specs.Script.{Script}
-use Rattle.nesc_requests.specs.declared.word.Word.{Word}
+use Rattle.early_requests.specs.Script.{Script}
+use Rattle.early_requests.specs.declared.word.Word.{Word}
 use Rattle.nesc_base.specs.Sink.{Appends}
-use Rattle.file_model.specs.State.{start}
-use Rattle.file_model.specs.Traces.{setting_of}
+use Rattle.early_model.specs.State.{start}
+use Rattle.early_model.specs.Traces.{setting_of}
 use Rattle.text_kit.specs.Known.{AppendsPrefix}
 use Rattle.image_layout.specs.declared.fault.OpenFault.{OpenFault}
 use Rattle.image_layout.specs.declared.fault.OpenFault.TheVariants.{NoMemory, Disk, Image}

@@ -3,24 +3,24 @@ use Rattle.std.specs.Prelude.{◌≡◌, ℕ, ◌+◌, ◌≤◌, ◌++◌, List
 use Rattle.std.specs.List.{flat_map, sum_by}
 use Rattle.nesc_base.specs.Sink.{Appends, Lent}
 use Rattle.nesc_base.specs.declared.sink.WriteFault.{WriteFault}
-use Rattle.nesc_requests.specs.Script.{Script, requests_of, with_numbered}
-use Rattle.nesc_requests.specs.declared.event.Event.{Event}
-use Rattle.nesc_requests.specs.declared.event.Event.TheVariants.{Submit}
-use Rattle.nesc_requests.specs.Requests.{IsNumbered}
-use Rattle.nesc_requests.specs.declared.request.Request.{Request}
-use Rattle.nesc_requests.specs.declared.word.Word.{Word}
-use Rattle.nesc_requests.specs.declared.word.Word.TheVariants.{G}
-use Rattle.file_model.specs.declared.outcome.Answer.{Answer}
-use Rattle.file_model.specs.declared.outcome.Answer.TheVariants as answer
-use Rattle.file_model.specs.Groups.{Group}
-use Rattle.file_model.specs.Lines.{group_text, trace_text}
-use Rattle.file_model.specs.State.{State}
-use Rattle.file_model.specs.Traces.{IsTrace}
-use Rattle.file_model.specs.declared.setting.Setting.{Setting}
-use Rattle.script_lang.specs.Left.{Left, taken_of}
+use Rattle.early_requests.specs.Script.{Script, requests_of, with_numbered}
+use Rattle.early_requests.specs.declared.event.Event.{Event}
+use Rattle.early_requests.specs.declared.event.Event.TheVariants.{Submit}
+use Rattle.early_requests.specs.Requests.{IsNumbered}
+use Rattle.early_requests.specs.declared.request.Request.{Request}
+use Rattle.early_requests.specs.declared.word.Word.{Word}
+use Rattle.early_requests.specs.declared.word.Word.TheVariants.{G}
+use Rattle.early_model.specs.declared.outcome.Answer.{Answer}
+use Rattle.early_model.specs.declared.outcome.Answer.TheVariants as answer
+use Rattle.early_model.specs.Groups.{Group}
+use Rattle.early_model.specs.Lines.{group_text, trace_text}
+use Rattle.early_model.specs.State.{State}
+use Rattle.early_model.specs.Traces.{IsTrace}
+use Rattle.early_model.specs.declared.setting.Setting.{Setting}
+use Rattle.early_script.specs.Left.{Left, taken_of}
 use Rattle.text_kit.specs.Known.{AppendsPrefix}
 use Rattle.text_kit.specs.Writes.{Writes}
-use Rattle.nesc_session.specs.Room.{room_for, room_to_write}
+use Rattle.early_session.specs.Room.{room_for, room_to_write}
 
 -- What is drawn
 

@@ -1,9 +1,9 @@
 -- Reading and judging the two texts.
 use Rattle.std.specs.Prelude.{◌≡◌, ◌⊎◌, ℕ, List, Option, Some, None}
-use Rattle.nesc_requests.specs.Script.{Script}
-use Rattle.nesc_requests.specs.declared.word.Word.{Word}
-use Rattle.script_lang.specs.CommandsText.{IsCommandsText}
-use Rattle.script_lang.specs.ScheduleText.{schedule_of}
+use Rattle.early_requests.specs.Script.{Script}
+use Rattle.early_requests.specs.declared.word.Word.{Word}
+use Rattle.early_script.specs.CommandsText.{IsCommandsText}
+use Rattle.early_script.specs.ScheduleText.{schedule_of}
 use Rattle.nesc_monitor.specs.Reading.{GivesTooMany, GivesWhole, TakesFront}
 use Rattle.nesc_monitor.specs.Watched.{HasFailed, HasWorked, IsUntouched, Watched}
 use Rattle.nesc_monitor.specs.declared.ending.Ending.{Ending}

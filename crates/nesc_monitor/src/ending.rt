@@ -6,10 +6,10 @@ ghost use Rattle.image_layout.specs.declared.fault.ImageFault.TheVariants.{Twice
 ghost use Rattle.nesc_monitor.specs.declared.ending.Ending.TheVariants as ending;
 ghost use Rattle.text_kit.specs.Writes.{Writes};
 
+use early_trace::{Piece, write_pieces};
 use image_layout::{ImageFault, OpenFault};
 use nesc_base::{FileNo, Sink, WriteFault};
 use text_kit::write_text;
-use trace_text::{Piece, write_pieces};
 
 /// How a command of the program ended.
 #[derive(Clone, Copy, Debug, PartialEq, Eq)]

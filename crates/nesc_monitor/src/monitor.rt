@@ -8,10 +8,10 @@ ghost use Rattle.nesc_base.specs.Geometry.{IsGeometry};
 ghost use Rattle.text_kit.specs.Buffered.{lent_name, pending_of, sink_of};
 ghost use Rattle.text_kit.specs.Writes.{Writes};
 ghost use Rattle.image_tools.specs.Make.{OpensWhereMade};
-ghost use Rattle.script_lang.specs.CommandsText.{blocks_in_all};
-ghost use Rattle.script_lang.specs.Limits.{most_blocks};
-ghost use Rattle.nesc_requests.specs.Machine.{IsMachine};
-ghost use Rattle.nesc_session.specs.Session.{IsReadyFor, state_of};
+ghost use Rattle.early_script.specs.CommandsText.{blocks_in_all};
+ghost use Rattle.early_script.specs.Limits.{most_blocks};
+ghost use Rattle.early_requests.specs.Machine.{IsMachine};
+ghost use Rattle.early_session.specs.Session.{IsReadyFor, state_of};
 ghost use Rattle.nesc_monitor.specs.Endings.{AtAnyMoment, Comes, LeavesMade};
 ghost use Rattle.nesc_monitor.specs.Making.{ComesOfMake};
 ghost use Rattle.nesc_monitor.specs.Promises.{Promises};
@@ -26,14 +26,14 @@ use crate::ending::{Ending, Status};
 use crate::steps::take_words;
 use crate::texts::{Accepted, read_script};
 use crate::words::{Command, read_words};
+use early_script::{Commands, Schedule};
+use early_session::Session;
+use early_trace::{Piece, write_pieces};
 use image_layout::ImageFault;
 use image_tools::{MakeFault, make};
 use nesc_base::{Disk, Geometry, Sink, Source, WriteFault};
-use nesc_session::Session;
-use script_lang::{Commands, Schedule};
 use std::alloc::Global;
 use text_kit::{Buffer, Buffered};
-use trace_text::{Piece, write_pieces};
 
 /// Writes the trace of all steps, and hands on what is still gathered of it.
 fn write_trace<K: Sink>(

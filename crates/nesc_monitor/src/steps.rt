@@ -1,15 +1,15 @@
 //! A word of the schedule draws an event, if there is one, which makes one step, and its lines are written.
 ghost use Rattle.std.specs.Prelude.{◌≡◌, ℕ, IfNone, IfSome};
 ghost use Rattle.nesc_base.specs.Files.{Files};
-ghost use Rattle.file_model.specs.Draws.{event_of, without_drawn};
-ghost use Rattle.nesc_session.specs.Session.{IsReadyFor, MayStep, state_of};
+ghost use Rattle.early_model.specs.Draws.{event_of, without_drawn};
+ghost use Rattle.early_session.specs.Session.{IsReadyFor, MayStep, state_of};
 ghost use Rattle.nesc_monitor.specs.Steps.{ComesBack, MayGiveBack, TellsWord, TellsWords, room_for_script, with_back};
 
+use early_requests::{Event, Word};
+use early_script::{Commands, Schedule};
+use early_session::{Answer, Session};
+use early_trace::{write_done, write_end, write_step};
 use nesc_base::{Sink, WriteFault};
-use nesc_requests::{Event, Word};
-use nesc_session::{Answer, Session};
-use script_lang::{Commands, Schedule};
-use trace_text::{write_done, write_end, write_step};
 
 /// The event that a word draws, or `None` where the host or the guest whose turn it is has nothing left to give.
 fn draw(commands: &mut Commands, word: Word) -> Option<Event>

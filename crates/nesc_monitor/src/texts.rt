@@ -1,16 +1,16 @@
 ghost use Rattle.std.specs.Prelude.{◌≡◌, ◌≤◌, Some, length, IfErr, IfOk, OnOk};
-ghost use Rattle.nesc_requests.specs.Machine.{IsMachine};
-ghost use Rattle.script_lang.specs.CommandsText.{IsCommandsText, blocks_in_all};
-ghost use Rattle.script_lang.specs.Limits.{most_blocks, most_bytes};
-ghost use Rattle.script_lang.specs.ScheduleText.{schedule_of};
+ghost use Rattle.early_requests.specs.Machine.{IsMachine};
+ghost use Rattle.early_script.specs.CommandsText.{IsCommandsText, blocks_in_all};
+ghost use Rattle.early_script.specs.Limits.{most_blocks, most_bytes};
+ghost use Rattle.early_script.specs.ScheduleText.{schedule_of};
 ghost use Rattle.nesc_monitor.specs.Reading.{GivesAll};
 ghost use Rattle.nesc_monitor.specs.Texts.{IsReadWhole, IsRefusal, AreRefusedFor, IsTakenFromFront, SaysScript, SaysWords};
 ghost use Rattle.nesc_monitor.specs.Watched.{watch};
 
 use crate::ending::Ending;
 use crate::reading::{ReadStop, read_text};
+use early_script::{Commands, InputFault, Schedule, read_commands, read_schedule};
 use nesc_base::Source;
-use script_lang::{Commands, InputFault, Schedule, read_commands, read_schedule};
 use std::alloc::Global;
 
 /// The two texts, as they were read.

@@ -1,10 +1,10 @@
-use file_model::{Answer, Handled, How, Outcome};
+use early_model::{Answer, Handled, How, Outcome};
+use early_requests::{End, HostAnswer, Kind, Miss, Reply, Request, Word};
+use early_trace::{write_done, write_end, write_step};
 use nesc_base::{Block, Blocks, FnNo, NoMemory};
 use nesc_fakes::MemSink;
-use nesc_requests::{End, HostAnswer, Kind, Miss, Reply, Request, Word};
 use std::alloc::Global;
 use std::test::Fail;
-use trace_text::{write_done, write_end, write_step};
 
 const F: FnNo = FnNo(1);
 

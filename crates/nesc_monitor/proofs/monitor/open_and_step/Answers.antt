@@ -1,7 +1,7 @@
 use Rattle.std.proofs.Common.{◌≡◌, ◌∙◌, refl, subst, arith}
-use Rattle.file_model.specs.State.{State, start}
-use Rattle.file_model.specs.Traces.{setting_of}
-use Rattle.file_model.specs.declared.setting.Setting.{Setting}
+use Rattle.early_model.specs.State.{State, start}
+use Rattle.early_model.specs.Traces.{setting_of}
+use Rattle.early_model.specs.declared.setting.Setting.{Setting}
 use Rattle.nesc_monitor.specs.Steps.{TellsAll, TellsFront}
 use Rattle.nesc_monitor.proofs.DrawLemmas.{script-less}
 use Rattle.nesc_monitor.proofs.monitor.open_and_step.Goals as goal

@@ -1,15 +1,15 @@
 use Rattle.std.proofs.Common.{◌≡◌, ◌+◌, [], ◌∷◌, sym, ap, ◌∙◌, subst, arith}
 use Rattle.std.specs.FinMap.{empty}
-use Rattle.nesc_requests.specs.Script.{Script}
-use Rattle.nesc_requests.specs.declared.word.Word.{Word}
-use Rattle.file_model.specs.Draws.{left_after}
-use Rattle.file_model.specs.Files.{staged}
-use Rattle.file_model.specs.Groups.{end_group, group_of}
-use Rattle.file_model.specs.Machine.{StepTaken}
-use Rattle.file_model.specs.State.{State}
-use Rattle.file_model.specs.Traces.{IsTrace}
-use Rattle.file_model.proofs.Traces.{IsTrace-end, IsTrace-one}
-use Rattle.nesc_session.specs.Session.{state_of}
+use Rattle.early_requests.specs.Script.{Script}
+use Rattle.early_requests.specs.declared.word.Word.{Word}
+use Rattle.early_model.specs.Draws.{left_after}
+use Rattle.early_model.specs.Files.{staged}
+use Rattle.early_model.specs.Groups.{end_group, group_of}
+use Rattle.early_model.specs.Machine.{StepTaken}
+use Rattle.early_model.specs.State.{State}
+use Rattle.early_model.specs.Traces.{IsTrace}
+use Rattle.early_model.proofs.Traces.{IsTrace-end, IsTrace-one}
+use Rattle.early_session.specs.Session.{state_of}
 use Rattle.nesc_monitor.specs.Steps.{ComesBack, room_for_script, with_back}
 use Rattle.nesc_monitor.proofs.DrawLemmas.{comes_back, drawn_from, left_behind, room-left_after, room-without}
 use Rattle.nesc_monitor.proofs.steps.take_word.Goals as goal

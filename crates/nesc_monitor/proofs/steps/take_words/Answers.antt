@@ -1,7 +1,7 @@
 use Rattle.std.proofs.Common.{◌≡◌, [], Ok, Err, refl, ◌∙◌, subst, rules}
-use Rattle.file_model.specs.declared.setting.Setting.{Setting}
-use Rattle.file_model.proofs.Steps.{never_stuck}
-use Rattle.nesc_session.specs.Session.{state_of}
+use Rattle.early_model.specs.declared.setting.Setting.{Setting}
+use Rattle.early_model.proofs.Steps.{never_stuck}
+use Rattle.early_session.specs.Session.{state_of}
 use Rattle.nesc_monitor.specs.Steps.{TellsWord}
 use Rattle.nesc_monitor.proofs.StepsLemmas.{TellsFirst-none, TellsFirst-more, TellsWords-all, TellsWords-cut}
 use Rattle.nesc_monitor.proofs.steps.take_words.Goals as goal

@@ -1,6 +1,6 @@
 use Rattle.std.proofs.Common.{◌≡◌, ℕ, length}
 use Rattle.nesc_base.specs.Files.{Files}
-use Rattle.nesc_session.specs.Session.{IsReadyFor, state_of}
+use Rattle.early_session.specs.Session.{IsReadyFor, state_of}
 use Rattle.nesc_monitor.specs.Steps.{TellsFirst, room_for_script}
 use Rattle.nesc_monitor.proofs.steps.take_words.Given as goal
 

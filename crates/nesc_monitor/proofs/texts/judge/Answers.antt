@@ -1,5 +1,5 @@
 use Rattle.std.proofs.Common.{Err, ap, sym, subst, ℕ, List}
-use Rattle.script_lang.specs.CommandsText.{IsCommandsText}
+use Rattle.early_script.specs.CommandsText.{IsCommandsText}
 use Rattle.nesc_monitor.proofs.texts.judge.Goals as goal
 
 pub returns-in-Err-Refused-clause-refusal : goal.returns-in-Err-Refused-clause-refusal

@@ -1,0 +1,25 @@
+-- The state of the plain machine.
+use Rattle.std.specs.Prelude.{ℕ, List, replicate}
+use Rattle.nesc_base.specs.Files.{Files}
+use Rattle.early_model.specs.Functions.{Function, off}
+use Rattle.early_model.specs.declared.setting.Setting.{Setting}
+
+pub record State : Type 0 where
+  -- the files after the steps so far, and as they were kept last
+  pub now : Files
+  pub kept : Files
+  -- each function, numbered from 1, and the number of the one that was taken last, or 0
+  pub functions : List Function
+  pub last : ℕ
+  -- how many blocks were staged since the files were kept
+  pub count : ℕ
+
+-- The machine before its first step: these files, which were kept last, and all functions off.
+abbrev pub start : Setting → Files → State
+start setting files = record {
+  now = files;
+  kept = files;
+  functions = replicate setting.machine.functions off;
+  last = 0;
+  count = 0;
+}

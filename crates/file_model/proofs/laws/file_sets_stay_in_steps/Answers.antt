@@ -1,5 +1,0 @@
-use Rattle.file_model.proofs.SetsStay.{sets_stay}
-use Rattle.file_model.proofs.laws.file_sets_stay_in_steps.Goals as goal
-
-pub returns : goal.returns
-returns c = sets_stay
