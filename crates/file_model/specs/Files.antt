@@ -105,7 +105,8 @@ abbrev pub with_zeros : Body → List ℕ → Body
 with_zeros body [] = body
 with_zeros body (v ∷ blocks) = with_zeros (insert body v zero_block) blocks
 
--- each of these blocks, none twice, lies below the length and was not held, and is a block of zeros now
+-- Each of these blocks, none twice, lies below the length and was not held, and is a block of zeros now. That so many data
+-- blocks were free is said by whoever holds them.
 pub record Holds (old : Files) (n : ℕ) (blocks : List ℕ) (new : Files) : Type 0 where
   pub file : File
   pub stands : get old n ≡ Some file

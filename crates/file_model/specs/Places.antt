@@ -3,6 +3,7 @@ use Rattle.std.specs.Prelude.{◌≡◌, ℕ, ◌<◌, ◌≤◌, nat_lt, List, 
 use Rattle.std.specs.FinMap.{empty, get, insert, remove, retain_keys}
 use Rattle.nesc_base.specs.declared.runs.Area.{Area}
 use Rattle.nesc_base.specs.Places.{HeldAt, IsFree, Places}
+use Rattle.file_model.specs.Files.{Change, create, delete, hold, put, resize}
 
 -- where the blocks of a file stand; a file that is not there has none
 abbrev pub held_at : Places → ℕ → HeldAt
@@ -34,3 +35,17 @@ pub record IsLowestFree (area : Area) (places : Places) (at : ℕ) : Type 0 wher
 abbrev pub Gives : Area → Places → ℕ → List ℕ → Places → Type 0
 Gives area old n [] new = new ≡ old
 Gives area old n (v ∷ blocks) new = (at : ℕ) × IsLowestFree area old at × Gives area (with_place old n v at) n blocks new
+
+-- a change of the files leads from the old places to the new ones: a block that comes to be held gets the lowest that is free,
+-- and one that is put stays where it is
+abbrev pub Moves : Area → Places → Change → Places → Type 0
+Moves area old (create n name length) new = new ≡ with_file old n
+Moves area old (delete n) new = new ≡ without_file old n
+Moves area old (resize n length) new = new ≡ cut_at old n length
+Moves area old (hold n blocks) new = Gives area old n blocks new
+Moves area old (put n v block) new = new ≡ old
+
+-- and so do several, one after another
+abbrev pub AreMoved : Area → Places → List Change → Places → Type 0
+AreMoved area old [] new = new ≡ old
+AreMoved area old (change ∷ changes) new = (next : Places) × Moves area old change next × AreMoved area next changes new

@@ -1,0 +1,14 @@
+pub mod Draws
+pub mod Functions
+pub mod Given
+pub mod Groups
+pub mod Handlings
+pub mod HostCommands
+pub mod Lines
+pub mod Machine
+pub mod Misses
+pub mod State
+pub mod Placing
+pub mod Submissions
+pub mod Ticks
+pub mod Traces
