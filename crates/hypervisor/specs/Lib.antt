@@ -1,0 +1,4 @@
+pub mod Attachments
+pub mod Carrying
+pub mod Needing
+pub mod Telling
