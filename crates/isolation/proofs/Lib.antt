@@ -1,0 +1,13 @@
+pub mod AtDesk
+pub mod NamesApart
+pub mod OneFile
+pub mod OneRun
+pub mod OneTurn
+pub mod OwnDesk
+pub mod OwnFile
+pub mod OwnRun
+pub mod Seeing
+pub mod SeeingHandlings
+pub mod SeeingHost
+pub mod SeeingSteps
+pub mod SeeingTurns
