@@ -1,6 +1,7 @@
 pub mod AtDesk
 pub mod NamesApart
 pub mod OneFile
+pub mod OneGuest
 pub mod OneRun
 pub mod OneTurn
 pub mod OwnDesk
@@ -11,3 +12,6 @@ pub mod SeeingHandlings
 pub mod SeeingHost
 pub mod SeeingSteps
 pub mod SeeingTurns
+pub mod TwoGuests
+pub mod TwoRuns
+pub mod WrongMachines
