@@ -7,5 +7,3 @@ mod data_blocks;
 mod files;
 #[cfg(test)]
 mod journal;
-#[cfg(test)]
-mod opening;

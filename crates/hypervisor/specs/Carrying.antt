@@ -1,15 +1,16 @@
 -- What the host does for a command: the step of the plain machine, over whatever files the blocks show.
-use Rattle.std.specs.Prelude.{◌≡◌, ℕ, ◌+◌, ◌&&◌, not, true, false, Bool, List, is_some, ◌-◌, None, Some}
+use Rattle.std.specs.Prelude.{◌≡◌, ℕ, ◌+◌, ◌-◌, true, List, Option, None, Some}
 use Rattle.std.specs.Int.{bit_at}
 use Rattle.nesc_base.specs.declared.block.Block.{Block}
 use Rattle.nesc_base.specs.declared.numbers.FileNo.{FileNo}
 use Rattle.nesc_base.specs.Disk.{Known}
 use Rattle.nesc_base.specs.Files.{Files}
 use Rattle.nesc_base.specs.Places.{Places}
+use Rattle.nesc_requests.specs.Buffers.{answer_buffers, command_buffers}
 use Rattle.nesc_requests.specs.declared.host.HostAnswer.{HostAnswer}
-use Rattle.nesc_requests.specs.declared.host.HostAnswer.TheVariants.{Exists, NoSlot, NoFile, Range, NoSpace, Media, Got}
+use Rattle.nesc_requests.specs.declared.host.HostAnswer.TheVariants.{Exists, NoSlot, NoFile, Range, NoSpace, Media}
 use Rattle.nesc_requests.specs.declared.host.HostCommand.{HostCommand}
-use Rattle.nesc_requests.specs.declared.host.HostCommand.TheVariants.{Put, Get, Sync, Regs}
+use Rattle.nesc_requests.specs.declared.host.HostCommand.TheVariants.{Sync, Regs}
 use Rattle.file_layer.specs.Layer.{IsUsed, Layer, area_of}
 use Rattle.file_layer.specs.declared.files.FileFault.{FileFault}
 use Rattle.file_layer.specs.declared.files.FileFault.TheVariants as fault
@@ -76,19 +77,14 @@ OnlyIdleGo queued old new = (f : ℕ) (file : FileNo) → file_of old f ≡ Some
 
 -- Buffers
 
--- the command brings blocks, and the answer has them
-abbrev pub brings_blocks : HostCommand → Bool
-brings_blocks (Put name v blocks) = true
-brings_blocks (Get name v into) = true
-brings_blocks command = false
-
-abbrev pub has_blocks : HostAnswer → Bool
-has_blocks (Got blocks) = true
-has_blocks answer = false
+-- those that are spent
+abbrev pub spent_buffers : {A : Type 0} → Option A → ℕ
+spent_buffers None = 0
+spent_buffers (Some blocks) = 1
 
 -- what the command brought stands in the answer, or is spent
 abbrev pub IsSpent : HostCommand → HostDone → Type 0
-IsSpent command done = is_some done.spent ≡ brings_blocks command && not (has_blocks done.answer)
+IsSpent command done = spent_buffers done.spent + answer_buffers done.answer ≡ command_buffers command
 
 -- how a call on files is refused
 abbrev pub refusal_of : FileFault → HostAnswer

@@ -16,43 +16,47 @@ use Rattle.nesc_base.specs.declared.blocks.Form.{Form}
 use Rattle.nesc_base.specs.declared.blocks.Form.TheVariants.{Repeats, Full}
 use Rattle.nesc_base.specs.Block.{zero_block}
 use Rattle.nesc_base.specs.BlockText.{period_of, repeated}
-use Rattle.nesc_base.specs.Blocks.{AreKept, block_in, blocks_in, most_in_request, repeats}
+use Rattle.nesc_base.specs.Blocks.{AreKept, block_in, blocks_in, most_in_request, repeats, zero_form}
 use Rattle.nesc_base.proofs.Differing.{same_by_places, slice_get-set_same, slice_get-set_other}
 
 -- Blocks of zeros
-
-abbrev pub zeros : Form
-zeros = Repeats (replicate 8 0)
 
 zeros_repeat : repeated (replicate 8 0) ≡ zero_block
 unfolding repeated zero_block
 zeros_repeat = refl
 
-pub blocks_in-zeros : (n : ℕ) (full : List Block) → blocks_in (replicate n zeros) full ≡ replicate n zero_block
-blocks_in-zeros zero full = refl
-blocks_in-zeros (suc n) full = ap (λ (block : Block). block ∷ map (block_in full) (replicate n zeros)) zeros_repeat ∙ ap (λ (blocks : List Block). zero_block ∷ blocks) (blocks_in-zeros n full)
+each_zero : (n : ℕ) (full : List Block) → blocks_in (replicate n zero_form) full ≡ replicate n zero_block
+each_zero zero full = refl
+each_zero (suc n) full = ap (λ (block : Block). block ∷ map (block_in full) (replicate n zero_form)) zeros_repeat ∙ ap (λ (blocks : List Block). zero_block ∷ blocks) (each_zero n full)
 
-count-zeros : (n : ℕ) → count_by repeats (replicate n zeros) ≡ n
-count-zeros n = let one : n * 1 ≡ n = omega arith in sum_by-replicate (λ form. cond (repeats form) 1 0) n zeros ∙ one
+pub blocks_in-zeros : (forms : List Form) (full : List Block) (n : ℕ) → forms ≡ replicate n zero_form → blocks_in forms full ≡ replicate n zero_block
+blocks_in-zeros forms full n are = ap (λ (fs : List Form). blocks_in fs full) are ∙ each_zero n full
 
-length-zeros : (n : ℕ) → length (replicate {A = Form} n zeros) ≡ n
+count-zeros : (n : ℕ) → count_by repeats (replicate n zero_form) ≡ n
+count-zeros n = let one : n * 1 ≡ n = omega arith in sum_by-replicate (λ form. cond (repeats form) 1 0) n zero_form ∙ one
+
+length-zeros : (n : ℕ) → length (replicate {A = Form} n zero_form) ≡ n
 length-zeros zero = refl
 length-zeros (suc n) = let rest = length-zeros n in omega arith
 
-none_full : (n k i : ℕ) → slice_get (replicate n zeros) k ≡ Some (Full i) → ⊥
+none_full : (n k i : ℕ) → slice_get (replicate n zero_form) k ≡ Some (Full i) → ⊥
 none_full zero k i is = cc
 none_full (suc n) zero i is = cc
 none_full (suc n) (suc k) i is = none_full n k i is
 
-pub AreKept-zeros : (n capacity : ℕ) (full : List Block) → 1 ≤ n → n ≤ most_in_request → full ≡ [] → n ≤ capacity → AreKept (replicate n zeros) full capacity
-AreKept-zeros n capacity full some within none room = record {
-  some = omega (arith, length-zeros n);
-  within = omega (arith, length-zeros n);
-  counted = omega (arith, length-zeros n, count-zeros n, ap length none);
-  room = omega (arith, length-zeros n);
-  inside = λ k i is. absurd (none_full n k i is);
-  apart = λ j k i first second. absurd (none_full n j i first);
-}
+pub AreKept-zeros : (forms : List Form) (full : List Block) (n form_capacity full_capacity : ℕ) → forms ≡ replicate n zero_form → full ≡ [] → 1 ≤ n → n ≤ most_in_request
+    → most_in_request ≤ form_capacity → most_in_request ≤ full_capacity → AreKept forms full form_capacity full_capacity
+AreKept-zeros forms full n form_capacity full_capacity are none some within room_for_forms room_for_full =
+    let size : length forms ≡ n = ap length are ∙ length-zeros n in
+    record {
+      some = omega (arith, size, some);
+      within = omega (arith, size, within);
+      counted = omega (arith, size, ap (count_by repeats) are, count-zeros n, ap length none);
+      room_for_forms = room_for_forms;
+      room_for_full = room_for_full;
+      inside = λ k i is. absurd (none_full n k i (ap (λ fs. slice_get fs k) (sym are) ∙ is));
+      apart = λ j k i first second. absurd (none_full n j i (ap (λ fs. slice_get fs j) (sym are) ∙ first));
+    }
 
 -- One form in place of another
 
@@ -71,10 +75,10 @@ counts : (b : Bool) → b ≡ true → ◌≡◌ {A = ℕ} (cond b 1 0) 1
 counts b is = ap {A = Bool} {B = ℕ} (λ t. cond t 1 0) is
 
 -- a form in place of one that repeats, where what it keeps in full is kept behind the others
-AreKept-put : (forms : List Form) (full more : List Block) (capacity k : ℕ) (put d : Form) → k < length forms → repeats (get_or forms k d) ≡ true
+AreKept-put : (forms : List Form) (full more : List Block) (form_capacity full_capacity k : ℕ) (put d : Form) → k < length forms → repeats (get_or forms k d) ≡ true
     → cond (repeats put) 1 0 + length more ≡ length full + 1 → length full ≤ length more → ((i : ℕ) → put ≡ Full i → (length full ≤ i) × (i < length more))
-    → AreKept forms full capacity → AreKept (slice_set forms k put) more capacity
-AreKept-put forms full more capacity k put d within was counted longer behind kept =
+    → AreKept forms full form_capacity full_capacity → AreKept (slice_set forms k put) more form_capacity full_capacity
+AreKept-put forms full more form_capacity full_capacity k put d within was counted longer behind kept =
     let size : length (slice_set forms k put) ≡ length forms = length-set forms k put in
     let one = counts (repeats (get_or forms k d)) was in
     let many = sum_by-set (λ form. cond (repeats form) 1 0) forms k put d within in
@@ -82,7 +86,8 @@ AreKept-put forms full more capacity k put d within was counted longer behind ke
       some = omega (arith, size, kept.some);
       within = omega (arith, size, kept.within);
       counted = omega (arith, size, one, many, counted, kept.counted);
-      room = omega (arith, size, kept.room);
+      room_for_forms = kept.room_for_forms;
+      room_for_full = kept.room_for_full;
       inside = λ m i is. elim (was_there forms k m put (Full i) is) [
         | inl here ↦ (behind i here.1).1
         | inr there ↦ omega (arith, kept.inside m i there.1, longer)
@@ -100,15 +105,15 @@ AreKept-put forms full more capacity k put d within was counted longer behind ke
     }
 
 -- a form that repeats in place of another that does
-pub AreKept-repeats : (forms : List Form) (full : List Block) (capacity k : ℕ) (bytes : List ℕ) (d : Form) → k < length forms → repeats (get_or forms k d) ≡ true → AreKept forms full capacity → AreKept (slice_set forms k (Repeats bytes)) full capacity
-AreKept-repeats forms full capacity k bytes d within was kept =
-    AreKept-put forms full full capacity k (Repeats bytes) d within was (omega arith) (omega arith) (λ i is. absurd (let other = is in cc)) kept
+pub AreKept-repeats : (forms : List Form) (full : List Block) (form_capacity full_capacity k : ℕ) (bytes : List ℕ) (d : Form) → k < length forms → repeats (get_or forms k d) ≡ true → AreKept forms full form_capacity full_capacity → AreKept (slice_set forms k (Repeats bytes)) full form_capacity full_capacity
+AreKept-repeats forms full form_capacity full_capacity k bytes d within was kept =
+    AreKept-put forms full full form_capacity full_capacity k (Repeats bytes) d within was (omega arith) (omega arith) (λ i is. absurd (let other = is in cc)) kept
 
 -- a block that is kept in full, behind the others, in place of one that repeats
-pub AreKept-full : (forms : List Form) (full more : List Block) (capacity k n : ℕ) (d : Form) → k < length forms → repeats (get_or forms k d) ≡ true → n ≡ length full → length more ≡ n + 1
-    → AreKept forms full capacity → AreKept (slice_set forms k (Full n)) more capacity
-AreKept-full forms full more capacity k n d within was number longer kept =
-    AreKept-put forms full more capacity k (Full n) d within was (omega (arith, number, longer)) (omega (arith, number, longer))
+pub AreKept-full : (forms : List Form) (full more : List Block) (form_capacity full_capacity k n : ℕ) (d : Form) → k < length forms → repeats (get_or forms k d) ≡ true → n ≡ length full → length more ≡ n + 1
+    → AreKept forms full form_capacity full_capacity → AreKept (slice_set forms k (Full n)) more form_capacity full_capacity
+AreKept-full forms full more form_capacity full_capacity k n d within was number longer kept =
+    AreKept-put forms full more form_capacity full_capacity k (Full n) d within was (omega (arith, number, longer)) (omega (arith, number, longer))
     (λ i is. let same : n ≡ i = let e = is in cc in (omega (arith, same, number), omega (arith, same, number, longer))) kept
 
 -- The blocks that they are
@@ -123,25 +128,25 @@ pub set-repeats : (forms : List Form) (full : List Block) (k : ℕ) (bytes : Lis
 set-repeats forms full k bytes block is = map-set (block_in full) forms k (Repeats bytes) ∙ ap (slice_set (blocks_in forms full) k) (sym is)
 
 -- more blocks in full change none that were kept
-more_full : (forms : List Form) (full : List Block) (capacity : ℕ) (block : Block) → AreKept forms full capacity → blocks_in forms (full ++ block ∷ []) ≡ blocks_in forms full
-more_full forms full capacity block kept = same_by_places _ _ (λ at.
+more_full : (forms : List Form) (full : List Block) (form_capacity full_capacity : ℕ) (block : Block) → AreKept forms full form_capacity full_capacity → blocks_in forms (full ++ block ∷ []) ≡ blocks_in forms full
+more_full forms full form_capacity full_capacity block kept = same_by_places _ _ (λ at.
     slice_get-map (block_in (full ++ block ∷ [])) forms at
     ∙ alike_at full (full ++ block ∷ []) (slice_get forms at) (λ i is. get_or_append_left full (block ∷ []) zero_block i (kept.inside at i is))
     ∙ sym (slice_get-map (block_in full) forms at))
 
-pub set-full : (forms : List Form) (full : List Block) (capacity k n : ℕ) (block : Block) → n ≡ length full → AreKept forms full capacity
+pub set-full : (forms : List Form) (full : List Block) (form_capacity full_capacity k n : ℕ) (block : Block) → n ≡ length full → AreKept forms full form_capacity full_capacity
     → blocks_in (slice_set forms k (Full n)) (full ++ block ∷ []) ≡ slice_set (blocks_in forms full) k block
-set-full forms full capacity k n block number kept =
+set-full forms full form_capacity full_capacity k n block number kept =
     let more : List Block = full ++ block ∷ [] in
     let last : get_or more n zero_block ≡ block = ap (λ i. get_or more i zero_block) number ∙ get_or-append_seam full block [] zero_block in
     map-set (block_in more) forms k (Full n)
     ∙ ap (slice_set (blocks_in forms more) k) last
-    ∙ ap (λ (blocks : List Block). slice_set blocks k block) (more_full forms full capacity block kept)
+    ∙ ap (λ (blocks : List Block). slice_set blocks k block) (more_full forms full form_capacity full_capacity block kept)
 
 -- a block in full in place of another
-pub set-in_full : (forms : List Form) (full : List Block) (capacity k i : ℕ) (block : Block) → slice_get forms k ≡ Some (Full i) → AreKept forms full capacity
+pub set-in_full : (forms : List Form) (full : List Block) (form_capacity full_capacity k i : ℕ) (block : Block) → slice_get forms k ≡ Some (Full i) → AreKept forms full form_capacity full_capacity
     → blocks_in forms (slice_set full i block) ≡ slice_set (blocks_in forms full) k block
-set-in_full forms full capacity k i block stands kept =
+set-in_full forms full form_capacity full_capacity k i block stands kept =
     let other : List Block = slice_set full i block in
     let inside : i < length full = kept.inside k i stands in
     let within : k < length forms = slice_get_within forms k (Full i) stands in

@@ -1,5 +1,5 @@
 -- How the blocks of one request are kept.
-use Rattle.std.specs.Prelude.{◌≡◌, ℕ, ◌+◌, ◌<◌, ◌≤◌, Bool, true, false, List, length, map, count_by, slice_get, slice_index_or, Some}
+use Rattle.std.specs.Prelude.{◌≡◌, ℕ, ◌+◌, ◌<◌, ◌≤◌, Bool, true, false, List, length, map, replicate, count_by, slice_get, slice_index_or, Some}
 use Rattle.nesc_base.specs.declared.block.Block.{Block}
 use Rattle.nesc_base.specs.declared.blocks.Form.{Form}
 use Rattle.nesc_base.specs.declared.blocks.Form.TheVariants.{Repeats, Full}
@@ -22,12 +22,17 @@ abbrev pub repeats : Form → Bool
 repeats (Repeats bytes) = true
 repeats (Full i) = false
 
+-- how a block of zeros is kept
+abbrev pub zero_form : Form
+zero_form = Repeats (replicate 8 0)
+
 -- There is a form for each block, each that is kept in full is one of a block of its own, and the memory that was asked
--- for has room for all of them in full.
-pub record AreKept (forms : List Form) (full : List Block) (capacity : ℕ) : Type 0 where
+-- for has room for as many blocks as one request has at most, all of them in full.
+pub record AreKept (forms : List Form) (full : List Block) (form_capacity full_capacity : ℕ) : Type 0 where
   pub some : 1 ≤ length forms
   pub within : length forms ≤ most_in_request
   pub counted : count_by repeats forms + length full ≡ length forms
-  pub room : length forms ≤ capacity
+  pub room_for_forms : most_in_request ≤ form_capacity
+  pub room_for_full : most_in_request ≤ full_capacity
   pub inside : (k i : ℕ) → slice_get forms k ≡ Some (Full i) → i < length full
   pub apart : (j k i : ℕ) → slice_get forms j ≡ Some (Full i) → slice_get forms k ≡ Some (Full i) → j ≡ k

@@ -1,4 +1,4 @@
-use crate::{BLOCK_BYTES, Block, Blocks, Geometry, LONGEST_NAME, Name};
+use crate::{BLOCK_BYTES, Block, Blocks, Geometry, LONGEST_NAME, Name, PERIOD_BYTES};
 use std::test::Fail;
 
 #[test]
@@ -32,6 +32,12 @@ fn put(blocks: &mut Blocks, k: u32, block: &Block) {
     }
 }
 
+fn put_repeated(blocks: &mut Blocks, k: u32, bytes: &[u8; PERIOD_BYTES]) {
+    if k < blocks.len() {
+        blocks.set_repeated(k, bytes);
+    }
+}
+
 fn holds(blocks: &Blocks, k: u32, block: &Block) -> bool {
     k < blocks.len() && blocks.get(k) == *block
 }
@@ -52,6 +58,22 @@ fn blocks_of_each_form_are_given_back(rt: HostRuntime) -> Result<(), Fail> {
     }
     assert_eq!(rt; blocks.len(), 64);
     assert!(rt; holds(&blocks, 59, &Block::zero()));
+    Ok(())
+}
+
+#[test]
+fn blocks_are_filled_again(rt: HostRuntime) -> Result<(), Fail> {
+    let [zero, eight, torn, rising] = forms();
+    let mut blocks = Blocks::zeros(rt.alloc(), 2)?;
+    put(&mut blocks, 1, &rising);
+    blocks.refill(64);
+    assert_eq!(rt; blocks.len(), 64);
+    assert!(rt; holds(&blocks, 1, &zero));
+    put(&mut blocks, 63, &torn);
+    put_repeated(&mut blocks, 1, b"01234567");
+    assert!(rt; holds(&blocks, 1, &eight) && holds(&blocks, 63, &torn));
+    put_repeated(&mut blocks, 63, b"01234567");
+    assert!(rt; holds(&blocks, 63, &eight));
     Ok(())
 }
 

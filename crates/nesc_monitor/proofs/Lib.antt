@@ -1,7 +1,12 @@
 pub mod DrawLemmas
+pub mod GroupLemmas
+pub mod InputLemmas
 pub mod PromisesLemmas
 pub mod ReadingLemmas
 pub mod RunningLemmas
+pub mod SpareLemmas
+pub mod StartingLemmas
 pub mod StepsLemmas
 pub mod TellLemmas
 pub mod TextLemmas
+pub mod WordLemmas

@@ -3,10 +3,12 @@ use Rattle.std.specs.Prelude.{◌≡◌, ℕ, true, List, Some, None}
 use Rattle.nesc_base.specs.declared.geometry.Geometry.{Geometry}
 use Rattle.nesc_base.specs.Disk.{Known}
 use Rattle.nesc_base.specs.Files.{Files}
+use Rattle.nesc_base.specs.Places.{Places}
 use Rattle.image_layout.specs.declared.fault.ImageFault.{ImageFault}
-use Rattle.image_opening.specs.Parts.{IsRefusedSoFar, OpensAsItIs}
+use Rattle.image_layout.specs.Opens.{Opens}
+use Rattle.image_layout.specs.Refusal.{IsRefused}
 use Rattle.nesc_monitor.specs.Reading.{Tells}
-use Rattle.nesc_monitor.specs.Texts.{AreCommands, IsSchedule}
+use Rattle.nesc_monitor.specs.Texts.{AreAccepted}
 use Rattle.nesc_monitor.specs.Watched.{HasWorked, Watched, WatchedDisk}
 use Rattle.nesc_monitor.specs.Words.{command_of}
 use Rattle.nesc_monitor.specs.declared.words.Command.TheVariants.{Run, Make}
@@ -42,18 +44,18 @@ pub record AreReadWell (call : Call) : Type 0 where
 pub record AreKnownAccepted (call : Call) : Type 0 where
   pub commands_known : Tells call.commands.before
   pub schedule_known : Tells call.schedule.before
-  pub commands : AreCommands call.commands.before
-  pub schedule : IsSchedule call.schedule.before
+  pub accepted : AreAccepted call.commands.before call.schedule.before
 
--- It is known what the disk holds, and that opens as it is.
+-- It is known what the disk holds, and that opens.
 pub record OpensKnown (disk : Known) : Type 0 where
   pub known : disk.tells ≡ true
   pub geometry : Geometry
   pub files : Files
-  pub opens : OpensAsItIs disk.contents geometry files
+  pub places : Places
+  pub opens : Opens disk.contents geometry files places
 
 -- It is known what the disk holds, and that is refused.
 pub record IsKnownRefused (disk : Known) : Type 0 where
   pub known : disk.tells ≡ true
   pub fault : ImageFault
-  pub refused : IsRefusedSoFar disk.contents fault
+  pub refused : IsRefused disk.contents fault

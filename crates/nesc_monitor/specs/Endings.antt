@@ -6,6 +6,7 @@ use Rattle.nesc_base.specs.Disk.{Known, LeavesSince}
 use Rattle.image_layout.specs.declared.fault.ImageFault.{ImageFault}
 use Rattle.image_layout.specs.declared.fault.ImageFault.TheVariants.{BadSuper, BadSize, BadList, BadTable, BadOwner, TwiceOwned}
 use Rattle.image_tools.specs.Make.{OpensWhereMade}
+use Rattle.nesc_monitor.specs.Inputs.{input_line}
 use Rattle.nesc_monitor.specs.Making.{ComesOfMake}
 use Rattle.nesc_monitor.specs.Running.{ComesOfRun}
 use Rattle.nesc_monitor.specs.Watched.{HasTakenNothing, IsDiskUntouched, IsOnlyRead, IsUntouched, Watched, WatchedDisk}
@@ -31,8 +32,8 @@ abbrev pub status_of : Ending → Status
 status_of ending.Done = Done
 status_of ending.Words = Words
 status_of ending.Memory = Memory
-status_of ending.Commands = Input
-status_of ending.Schedule = Input
+status_of (ending.Commands fault) = Input
+status_of (ending.Schedule fault) = Input
 status_of (ending.Image fault) = Image
 status_of ending.Device = Device
 status_of ending.Read = Read
@@ -52,8 +53,8 @@ abbrev pub error_line : Ending → List ℕ
 error_line ending.Done = []
 error_line ending.Words = codes "nesc: words\n"
 error_line ending.Memory = codes "nesc: memory\n"
-error_line ending.Commands = codes "nesc: input commands\n"
-error_line ending.Schedule = codes "nesc: input schedule\n"
+error_line (ending.Commands fault) = input_line (codes "commands") fault
+error_line (ending.Schedule fault) = input_line (codes "schedule") fault
 error_line (ending.Image fault) = codes "nesc: image " ++ fault_line fault
 error_line ending.Device = codes "nesc: device\n"
 error_line ending.Read = codes "nesc: read\n"
@@ -62,7 +63,7 @@ error_line ending.Write = codes "nesc: write\n"
 -- What an ending says, by the command that the words are: of the two sources, of the image and of the sink.
 abbrev pub Comes : Ending → Option Command → Watched → Watched → WatchedDisk → Watched → Type 0
 Comes outcome None commands schedule image out = (outcome ≡ ending.Words) × IsUntouched commands × IsUntouched schedule × IsOnlyRead image × IsDiskUntouched image × IsUntouched out
-Comes outcome (Some Run) commands schedule image out = ComesOfRun outcome commands schedule image out × IsOnlyRead image
+Comes outcome (Some Run) commands schedule image out = ComesOfRun outcome commands schedule image out
 Comes outcome (Some (Make geometry)) commands schedule image out = IsUntouched commands × IsUntouched schedule × ComesOfMake outcome geometry image.before image.after out
 
 -- a stop leaves what it left before
@@ -73,10 +74,11 @@ LeavesAsBefore old new = LeavesSince (λ _. old.left old.clock) old new
 abbrev pub LeavesMade : Geometry → Known → Known → Type 0
 LeavesMade geometry old new = LeavesSince (λ _. OpensWhereMade geometry old) old new
 
--- so it is while an image is made, and every other command leaves what a stop left before
+-- so it is while an image is made, and where there is no command a stop leaves what it left before
 abbrev pub AtAnyMoment : Option Command → Known → Known → Type 0
+AtAnyMoment None old new = LeavesAsBefore old new
+AtAnyMoment (Some Run) old new = Unit {0}
 AtAnyMoment (Some (Make geometry)) old new = LeavesMade geometry old new
-AtAnyMoment command old new = LeavesAsBefore old new
 
 -- Statuses
 
@@ -94,11 +96,13 @@ IsInputRefused status = (status ≡ Input) ⊎ (status ≡ Memory)
 abbrev pub IsImageRefused : Status → Type 0
 IsImageRefused status = (status ≡ Image) ⊎ (status ≡ Memory)
 
--- it comes before the first step
+-- it comes before anything goes out
 abbrev pub IsEarly : Status → Type 0
-IsEarly Done = ⊥
-IsEarly Write = ⊥
-IsEarly status = Unit {0}
+IsEarly Words = Unit {0}
+IsEarly Memory = Unit {0}
+IsEarly Input = Unit {0}
+IsEarly Read = Unit {0}
+IsEarly status = ⊥
 
 -- it comes once both texts are accepted
 abbrev pub IsPastTexts : Status → Type 0

@@ -1,5 +1,6 @@
 pub mod Call
 pub mod Endings
+pub mod Inputs
 pub mod Making
 pub mod Promises
 pub mod Reading

@@ -1,7 +1,9 @@
--- What `run` promises of a call. Of a source or a sink that does not tell its bytes, and of a disk that does not tell what
--- it holds, nothing is said of these; of the others all the same.
+-- What `run` promises of a call. Of a source or a sink that does not tell its bytes nothing is said of these; of the others
+-- all the same. Where a disk does not tell what it holds, nothing is said of that, nor of what the steps of a run wrote.
 use Rattle.std.specs.Prelude.{◌≡◌, ◌↔◌, ◌<◌, ◌≤◌}
 use Rattle.nesc_base.specs.declared.geometry.Geometry.{Geometry}
+use Rattle.nesc_requests.specs.Script.{Script}
+use Rattle.script_lang.specs.declared.fault.InputFault.{InputFault}
 use Rattle.nesc_base.specs.Disk.{Goes}
 use Rattle.nesc_base.specs.Geometry.{total}
 use Rattle.image_layout.specs.declared.fault.ImageFault.{ImageFault}
@@ -10,8 +12,8 @@ use Rattle.nesc_monitor.specs.Call.{AreKnownAccepted, AreReadWell, Call, SaysNoC
 use Rattle.nesc_monitor.specs.Endings.{IsCarriedOut, IsEarly, IsImageRefused, IsInputRefused, IsOfMake, IsOfTexts, IsPastTexts, LeavesAsBefore, LeavesMade, error_line, status_of}
 use Rattle.nesc_monitor.specs.Making.{IsMade, made_text}
 use Rattle.nesc_monitor.specs.Reading.{GivesTooMany, Tells}
-use Rattle.nesc_monitor.specs.Running.{IsImageRefusedFor, IsLookedAtLast, WritesFront, WritesTrace}
-use Rattle.nesc_monitor.specs.Texts.{AreCommands, AreCommandsRefused, HasOneFailed, IsInTurn, IsReadWhole, IsSchedule, IsScheduleRefused, IsTakenFromFront, SaysNoScript, SaysNoWords}
+use Rattle.nesc_monitor.specs.Running.{FailsSo, IsImageRefusedFor, IsLookedAtLast, WritesFront, WritesTrace}
+use Rattle.nesc_monitor.specs.Texts.{AreAccepted, AreCommandsRefused, HasOneFailed, IsInTurn, IsReadWhole, IsScheduleRefused, IsTakenFromFront, SaysNoScript, SaysNoWords, SaysScript}
 use Rattle.nesc_monitor.specs.Watched.{DiskNeverFell, HasBegun, HasDiskFailed, HasDiskWorked, HasFailed, HasTaken, HasTakenNothing, HasWorked, IsDiskUntouched, IsOnlyRead, IsUntouched, NeverFell}
 use Rattle.nesc_monitor.specs.declared.ending.Ending.{Ending}
 use Rattle.nesc_monitor.specs.declared.ending.Ending.TheVariants as ending
@@ -57,30 +59,29 @@ pub record OfNoCommand (outcome : Ending) (call : Call) : Type 0 where
 
 -- What holds of the command `run`.
 pub record OfRun (status : Status) (outcome : Ending) (call : Call) : Type 0 where
-  -- what goes out
-  pub done : status ≡ Done → WritesTrace call.commands call.schedule call.image.before call.out
-  pub cut_short : status ≡ Write → WritesFront call.commands call.schedule call.image.before call.out
+  -- what goes out, and what the image keeps
+  pub done : status ≡ Done → WritesTrace call.commands call.schedule call.image call.out
+  pub cut_short : status ≡ Write → WritesFront call.commands call.schedule call.image call.out
+  pub failed : status ≡ Device → FailsSo call.commands call.schedule call.image call.out
   -- the texts, the commands first
   pub in_turn : IsInTurn call.commands call.schedule
   pub commands_read : IsPastTexts status → IsReadWhole call.commands
   pub schedule_read : IsPastTexts status → IsReadWhole call.schedule
-  pub commands_accepted : IsPastTexts status → AreCommands call.commands.before
-  pub schedule_accepted : IsPastTexts status → IsSchedule call.schedule.before
-  pub commands_refused : outcome ≡ ending.Commands → AreCommandsRefused call.commands call.schedule
-  pub schedule_refused : outcome ≡ ending.Schedule → IsScheduleRefused call.commands call.schedule
+  pub accepted : IsPastTexts status → AreAccepted call.commands.before call.schedule.before
+  pub commands_refused : (fault : InputFault) → outcome ≡ ending.Commands fault → AreCommandsRefused fault call.commands call.schedule
+  pub schedule_refused : (fault : InputFault) → outcome ≡ ending.Schedule fault → IsScheduleRefused fault call.commands call.schedule
   -- the image
-  pub image_refused : (fault : ImageFault) → outcome ≡ ending.Image fault → IsImageRefusedFor fault call.image.before
+  pub image_refused : (fault : ImageFault) → outcome ≡ ending.Image fault → IsImageRefusedFor fault call.image call.out
   pub image_untouched : IsOfTexts status → IsDiskUntouched call.image
   pub image_last : status ≡ Memory → IsLookedAtLast call.commands call.schedule call.image
-  pub image_only_read : IsOnlyRead call.image
-  pub any_moment : LeavesAsBefore call.image.before call.image.after
   -- it follows
   pub too_long : Tells call.commands.before → GivesTooMany call.commands.before → IsUntouched call.schedule
 
 -- What follows for the command `run` where neither source fails.
 pub record OfRunReadWell (status : Status) (call : Call) : Type 0 where
-  pub commands_refused : Tells call.commands.before → SaysNoScript call.commands.before → IsInputRefused status
-  pub schedule_refused : Tells call.schedule.before → SaysNoWords call.schedule.before → IsInputRefused status
+  pub commands_refused : (fault : InputFault) → Tells call.commands.before → SaysNoScript call.commands.before fault → IsInputRefused status
+  pub schedule_refused : (script : Script) (fault : InputFault) → Tells call.commands.before → SaysScript call.commands.before script
+      → Tells call.schedule.before → SaysNoWords script.machine.functions call.schedule.before fault → IsInputRefused status
   pub image_refused : AreKnownAccepted call → IsKnownRefused call.image.before → HasDiskWorked call.image
       → IsImageRefused status
   pub carried_out : AreKnownAccepted call → OpensKnown call.image.before → HasDiskWorked call.image → HasWorked call.out
@@ -98,6 +99,8 @@ pub record OfMake (geometry : Geometry) (status : Status) (outcome : Ending) (ca
   pub small : (status ≡ Image) ↔ (call.image.before.size < total geometry)
   pub small_told : (fault : ImageFault) → outcome ≡ ending.Image fault → fault ≡ BadSize call.image.before.size
   pub small_only_read : status ≡ Image → IsOnlyRead call.image
+  pub small_silent : status ≡ Image → HasTakenNothing call.out
+  pub failed_silent : status ≡ Device → HasTakenNothing call.out
   -- what a stop leaves on the way
   pub any_moment : LeavesMade geometry call.image.before call.image.after
   -- nothing is asked of the texts

@@ -1,6 +1,6 @@
 -- What is read of a source.
 use Rattle.std.specs.Prelude.{◌≡◌, ℕ, ◌+◌, ◌<◌, ◌≤◌, ◌++◌, List, [], drop, length, Option, Some, None}
-use Rattle.early_script.specs.Limits.{most_bytes}
+use Rattle.script_lang.specs.Limits.{most_bytes}
 
 -- where the source tells what it has left: that was the text, and nothing is left
 abbrev pub GivesAll : List ℕ → Option (List ℕ) → Option (List ℕ) → Type 0

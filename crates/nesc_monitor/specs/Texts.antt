@@ -1,50 +1,50 @@
 -- Reading and judging the two texts.
-use Rattle.std.specs.Prelude.{◌≡◌, ◌⊎◌, ℕ, List, Option, Some, None}
-use Rattle.early_requests.specs.Script.{Script}
-use Rattle.early_requests.specs.declared.word.Word.{Word}
-use Rattle.early_script.specs.CommandsText.{IsCommandsText}
-use Rattle.early_script.specs.ScheduleText.{schedule_of}
+use Rattle.std.specs.Prelude.{◌≡◌, ◌⊎◌, ℕ, List, Option, Some, None, Ok, Err}
+use Rattle.nesc_requests.specs.Script.{Script}
+use Rattle.nesc_requests.specs.declared.word.Word.{Word}
+use Rattle.script_lang.specs.CommandsText.{commands_of}
+use Rattle.script_lang.specs.ScheduleText.{schedule_of}
+use Rattle.script_lang.specs.declared.fault.InputFault.{InputFault}
 use Rattle.nesc_monitor.specs.Reading.{GivesTooMany, GivesWhole, TakesFront}
 use Rattle.nesc_monitor.specs.Watched.{HasFailed, HasWorked, IsUntouched, Watched}
 use Rattle.nesc_monitor.specs.declared.ending.Ending.{Ending}
 use Rattle.nesc_monitor.specs.declared.ending.Ending.TheVariants.{Commands, Memory, Read, Schedule}
 
+-- What a text says, by what its source had left, where that is told
+
+-- the commands file says this script
+abbrev pub SaysScript : Option (List ℕ) → Script → Type 0
+SaysScript None script = Unit {0}
+SaysScript (Some text) script = commands_of text ≡ Ok script
+
+-- it is refused for this cause
+abbrev pub SaysNoScript : Option (List ℕ) → InputFault → Type 0
+SaysNoScript None fault = Unit {0}
+SaysNoScript (Some text) fault = commands_of text ≡ Err fault
+
+-- the schedule says these words, for a machine of so many functions
+abbrev pub SaysWords : ℕ → Option (List ℕ) → List Word → Type 0
+SaysWords functions None words = Unit {0}
+SaysWords functions (Some text) words = schedule_of functions text ≡ Ok words
+
+-- it is refused for this cause
+abbrev pub SaysNoWords : ℕ → Option (List ℕ) → InputFault → Type 0
+SaysNoWords functions None fault = Unit {0}
+SaysNoWords functions (Some text) fault = schedule_of functions text ≡ Err fault
+
+-- both are accepted
+pub record AreAccepted (commands schedule : Option (List ℕ)) : Type 0 where
+  pub script : Script
+  pub words : List Word
+  pub commands_say : SaysScript commands script
+  pub schedule_says : SaysWords script.machine.functions schedule words
+
 -- why a commands file and a schedule, as they were read, are refused
 abbrev pub IsRefusal : Ending → List ℕ → List ℕ → Type 0
 IsRefusal Memory commands schedule = Unit {0}
-IsRefusal Commands commands schedule = (script : Script) → ¬ IsCommandsText commands script
-IsRefusal Schedule commands schedule = (schedule_of schedule ≡ None) × (script : Script) × IsCommandsText commands script
+IsRefusal (Commands fault) commands schedule = commands_of commands ≡ Err fault
+IsRefusal (Schedule fault) commands schedule = (script : Script) × (commands_of commands ≡ Ok script) × (schedule_of script.machine.functions schedule ≡ Err fault)
 IsRefusal ending commands schedule = ⊥
-
--- What a text says, by what its source had left, where that is told
-
--- the commands file says this
-abbrev pub SaysScript : Option (List ℕ) → Script → Type 0
-SaysScript None script = Unit {0}
-SaysScript (Some text) script = IsCommandsText text script
-
--- it says nothing
-abbrev pub SaysNoScript : Option (List ℕ) → Type 0
-SaysNoScript None = Unit {0}
-SaysNoScript (Some text) = (script : Script) → ¬ IsCommandsText text script
-
--- it is accepted
-abbrev pub AreCommands : Option (List ℕ) → Type 0
-AreCommands text = (script : Script) × SaysScript text script
-
--- the schedule says this
-abbrev pub SaysWords : Option (List ℕ) → List Word → Type 0
-SaysWords None words = Unit {0}
-SaysWords (Some text) words = schedule_of text ≡ Some words
-
--- it says nothing
-abbrev pub SaysNoWords : Option (List ℕ) → Type 0
-SaysNoWords None = Unit {0}
-SaysNoWords (Some text) = schedule_of text ≡ None
-
--- it is accepted
-abbrev pub IsSchedule : Option (List ℕ) → Type 0
-IsSchedule text = (words : List Word) × SaysWords text words
 
 -- How far the two were read
 
@@ -61,15 +61,16 @@ abbrev pub IsInTurn : Watched → Watched → Type 0
 IsInTurn commands schedule = IsUntouched schedule ⊎ IsReadWhole commands
 
 -- The commands are refused: too long, which is found before anything is read of the schedule, or once both are read.
-pub record AreCommandsRefused (commands schedule : Watched) : Type 0 where
-  pub refused : SaysNoScript commands.before
+pub record AreCommandsRefused (fault : InputFault) (commands schedule : Watched) : Type 0 where
+  pub refused : SaysNoScript commands.before fault
   pub found : (GivesTooMany commands.before × IsUntouched schedule) ⊎ (IsReadWhole commands × IsReadWhole schedule)
 
--- The schedule is refused: too long, which is found while it is read, or once the commands are accepted.
-pub record IsScheduleRefused (commands schedule : Watched) : Type 0 where
-  pub refused : SaysNoWords schedule.before
+-- The schedule is refused: too long for any machine, which is found while it is read; or for the machine of the commands, once
+-- these are accepted.
+pub record IsScheduleRefused (fault : InputFault) (commands schedule : Watched) : Type 0 where
   pub commands_read : IsReadWhole commands
-  pub found : GivesTooMany schedule.before ⊎ (AreCommands commands.before × IsReadWhole schedule)
+  pub found : (GivesTooMany schedule.before × ((functions : ℕ) → SaysNoWords functions schedule.before fault))
+      ⊎ ((script : Script) × SaysScript commands.before script × SaysNoWords script.machine.functions schedule.before fault × IsReadWhole schedule)
 
 -- the commands' source failed, and the schedule's was not asked, or the commands were read and the schedule's failed
 abbrev pub HasOneFailed : Watched → Watched → Type 0
@@ -78,8 +79,8 @@ HasOneFailed commands schedule = (HasFailed commands × IsUntouched schedule) �
 -- why the texts were refused, or not read
 abbrev pub AreRefusedFor : Ending → Watched → Watched → Type 0
 AreRefusedFor Memory commands schedule = IsInTurn commands schedule
-AreRefusedFor Commands commands schedule = AreCommandsRefused commands schedule
-AreRefusedFor Schedule commands schedule = IsScheduleRefused commands schedule
+AreRefusedFor (Commands fault) commands schedule = AreCommandsRefused fault commands schedule
+AreRefusedFor (Schedule fault) commands schedule = IsScheduleRefused fault commands schedule
 AreRefusedFor Read commands schedule = HasOneFailed commands schedule
 AreRefusedFor ending commands schedule = ⊥
 
@@ -87,5 +88,4 @@ AreRefusedFor ending commands schedule = ⊥
 pub record AreTaken (commands schedule : Watched) : Type 0 where
   pub commands_read : IsReadWhole commands
   pub schedule_read : IsReadWhole schedule
-  pub commands_accepted : AreCommands commands.before
-  pub schedule_accepted : IsSchedule schedule.before
+  pub accepted : AreAccepted commands.before schedule.before

@@ -1,15 +1,19 @@
 ghost use Rattle.std.specs.Prelude.{◌≡◌, ◌++◌, codes};
 ghost use Rattle.std.specs.Fmt.{decimal};
 ghost use Rattle.nesc_monitor.specs.Endings.{code_of, error_line, status_of};
-ghost use Rattle.nesc_monitor.specs.Starting.{ending_of};
+ghost use Rattle.nesc_monitor.specs.Starting.{ending_of, ending_of_run};
 ghost use Rattle.image_layout.specs.declared.fault.ImageFault.TheVariants.{TwiceOwned};
 ghost use Rattle.nesc_monitor.specs.declared.ending.Ending.TheVariants as ending;
 ghost use Rattle.text_kit.specs.Writes.{Writes};
 
-use early_trace::{Piece, write_pieces};
+use crate::fault::RunFault;
+use crate::inputs::tell_input;
 use image_layout::{ImageFault, OpenFault};
 use nesc_base::{FileNo, Sink, WriteFault};
+use nesc_session::StepFault;
+use script_lang::InputFault;
 use text_kit::write_text;
+use trace_text::{Piece, write_pieces};
 
 /// How a command of the program ended.
 #[derive(Clone, Copy, Debug, PartialEq, Eq)]
@@ -22,7 +26,8 @@ pub enum Status {
     Memory,
     /// A text that was read is refused.
     Input,
-    /// The image is refused, or the disk is too small for it.
+    /// The image is refused, or the disk is too small for it. Over a disk that does not tell what it holds this may also
+    /// come of a restart, behind lines of steps.
     Image,
     /// The disk of the image failed.
     Device,
@@ -60,9 +65,9 @@ pub enum Ending {
     /// There was no memory.
     Memory,
     /// The commands file is refused.
-    Commands,
+    Commands(InputFault),
     /// The schedule is refused.
-    Schedule,
+    Schedule(InputFault),
     /// The image is refused, or the disk is too small for it.
     Image(ImageFault),
     /// The disk of the image failed.
@@ -85,6 +90,17 @@ impl Ending {
         }
     }
 
+    /// What it comes to that the words of a schedule were not taken to their end.
+    pub fn of_run(fault: RunFault) -> Ending
+        ensures { result ≡ ending_of_run fault }
+    {
+        match fault {
+            RunFault::Write(_) => Ending::Write,
+            RunFault::Step(StepFault::Disk(_)) => Ending::Device,
+            RunFault::Step(StepFault::Image(fault)) => Ending::Image(fault),
+        }
+    }
+
     /// The status of the program.
     pub fn status(self) -> Status
         ensures { result ≡ status_of self }
@@ -93,7 +109,7 @@ impl Ending {
             Ending::Done => Status::Done,
             Ending::Words => Status::Words,
             Ending::Memory => Status::Memory,
-            Ending::Commands | Ending::Schedule => Status::Input,
+            Ending::Commands(_) | Ending::Schedule(_) => Status::Input,
             Ending::Image(_) => Status::Image,
             Ending::Device => Status::Device,
             Ending::Read => Status::Read,
@@ -109,8 +125,8 @@ impl Ending {
             Ending::Done => write_text(err, b""),
             Ending::Words => write_text(err, b"nesc: words\n"),
             Ending::Memory => write_text(err, b"nesc: memory\n"),
-            Ending::Commands => write_text(err, b"nesc: input commands\n"),
-            Ending::Schedule => write_text(err, b"nesc: input schedule\n"),
+            Ending::Commands(fault) => tell_input(err, b"commands", fault),
+            Ending::Schedule(fault) => tell_input(err, b"schedule", fault),
             Ending::Image(fault) => tell_fault(err, fault),
             Ending::Device => write_text(err, b"nesc: device\n"),
             Ending::Read => write_text(err, b"nesc: read\n"),

@@ -2,6 +2,8 @@
 #![tactic(auto)]
 
 mod ending;
+mod fault;
+mod inputs;
 mod monitor;
 mod reading;
 mod steps;

@@ -1,77 +1,68 @@
-ghost use Rattle.std.specs.Prelude.{◌≡◌, ◌≤◌, ◌++◌, [], map, codes, string_bytes, IsErr, OnOk};
+ghost use Rattle.std.specs.Prelude.{◌≡◌, ◌≤◌, ◌++◌, List, map, codes, string_bytes, true, IsErrOf};
 ghost use Rattle.std.specs.Fmt.{decimal};
+ghost use Rattle.nesc_base.specs.declared.block.Block.{Block};
 ghost use Rattle.nesc_base.specs.declared.geometry.Geometry.{Geometry};
-ghost use Rattle.nesc_base.specs.Disk.{Goes, LeavesSince, Unchanged};
+ghost use Rattle.nesc_base.specs.Disk.{Goes};
 ghost use Rattle.nesc_base.specs.Fault.{HasCause};
-ghost use Rattle.nesc_base.specs.Files.{Files};
 ghost use Rattle.nesc_base.specs.Geometry.{IsGeometry};
-ghost use Rattle.text_kit.specs.Buffered.{lent_name, pending_of, sink_of};
+ghost use Rattle.nesc_requests.specs.Machine.{IsMachine};
+ghost use Rattle.nesc_session.specs.Resting.{IsIn};
+ghost use Rattle.nesc_session.specs.declared.fault.StepFault.TheVariants as step;
+ghost use Rattle.plain_machine.specs.Placing.{Placed};
+ghost use Rattle.plain_machine.specs.State.{State};
+ghost use Rattle.script_lang.specs.Left.{untouched};
 ghost use Rattle.text_kit.specs.Writes.{Writes};
-ghost use Rattle.image_tools.specs.Make.{OpensWhereMade};
-ghost use Rattle.early_script.specs.CommandsText.{blocks_in_all};
-ghost use Rattle.early_script.specs.Limits.{most_blocks};
-ghost use Rattle.early_requests.specs.Machine.{IsMachine};
-ghost use Rattle.early_session.specs.Session.{IsReadyFor, state_of};
 ghost use Rattle.nesc_monitor.specs.Endings.{AtAnyMoment, Comes, LeavesMade};
 ghost use Rattle.nesc_monitor.specs.Making.{ComesOfMake};
 ghost use Rattle.nesc_monitor.specs.Promises.{Promises};
 ghost use Rattle.nesc_monitor.specs.Running.{ComesOfRun};
 ghost use Rattle.nesc_monitor.specs.Starting.{StartsAndTells};
-ghost use Rattle.nesc_monitor.specs.Steps.{TellsAll, TellsFront, room_for_script};
+ghost use Rattle.nesc_monitor.specs.Steps.{IsUnderWay, RunsBy};
 ghost use Rattle.nesc_monitor.specs.Texts.{IsTakenFromFront};
 ghost use Rattle.nesc_monitor.specs.Watched.{watch, watch_disk};
 ghost use Rattle.nesc_monitor.specs.Words.{command_of};
+ghost use Rattle.nesc_monitor.specs.declared.fault.RunFault.TheVariants as run;
 
 use crate::ending::{Ending, Status};
+use crate::fault::RunFault;
 use crate::steps::take_words;
 use crate::texts::{Accepted, read_script};
 use crate::words::{Command, read_words};
-use early_script::{Commands, Schedule};
-use early_session::Session;
-use early_trace::{Piece, write_pieces};
 use image_layout::ImageFault;
 use image_tools::{MakeFault, make};
 use nesc_base::{Disk, Geometry, Sink, Source, WriteFault};
+use nesc_requests::Buffers;
+use nesc_session::Session;
+use script_lang::buffers_of;
 use std::alloc::Global;
 use text_kit::{Buffer, Buffered};
+use trace_text::{Piece, write_pieces};
 
-/// Writes the trace of all steps, and hands on what is still gathered of it.
-fn write_trace<K: Sink>(
-    session: &mut Session,
-    commands: &mut Commands,
-    schedule: &mut Schedule,
-    buffered: &mut Buffered<'_, K>,
-) -> Result<(), WriteFault>
-    requires ready { IsReadyFor (room_for_script commands.old.script) session.old }
-    requires empty { pending_of buffered.old ≡ [] }
-    ensures all { (kept : Files) → OnOk result (TellsAll session.old.setting (state_of kept 0 session.old) commands.old.script schedule.old (K.taken (sink_of buffered.old)) (K.taken (sink_of buffered.new))) }
-    ensures front { (kept : Files) → TellsFront session.old.setting (state_of kept 0 session.old) commands.old.script schedule.old (K.taken (sink_of buffered.old)) (K.taken (sink_of buffered.new)) }
-    ensures lent { lent_name buffered.new ≡ lent_name buffered.old }
-    ensures cause { HasCause (K.faults (sink_of buffered.old)) (K.faults (sink_of buffered.new)) (IsErr result) }
-{
-    match take_words(session, commands, schedule, buffered) {
-        Ok(()) => buffered.flush(),
-        Err(fault) => Err(fault),
-    }
-}
-
-/// Writes the trace of all steps to a sink, which it gathers first.
-fn write_out<K: Sink>(
+/// Takes all words of the accepted texts, and writes the trace to a sink, which it gathers first.
+fn write_out<D: Disk, K: Sink>(
     session: &mut Session,
     accepted: &mut Accepted,
+    spare: &mut Buffers,
     buffer: &mut Buffer,
+    image: &mut D,
     out: &mut K,
-) -> Result<(), WriteFault>
-    requires { IsReadyFor (room_for_script accepted.old.commands.script) session.old }
-    ensures all { (kept : Files) → OnOk result (TellsAll session.old.setting (state_of kept 0 session.old) accepted.old.commands.script accepted.old.schedule (K.taken out.old) (K.taken out.new)) }
-    ensures front { (kept : Files) → TellsFront session.old.setting (state_of kept 0 session.old) accepted.old.commands.script accepted.old.schedule (K.taken out.old) (K.taken out.new) }
-    ensures cause { HasCause (K.faults out.old) (K.faults out.new) (IsErr result) }
+) -> Result<(), RunFault>
+    requires { IsUnderWay session.old accepted.old.commands spare.old (D.known image.old) }
+    ensures runs { (D.known image.old).tells ≡ true → (kept : List Block) (state : State) (placed : Placed) → IsIn session.old (D.known image.old) kept state placed
+        → RunsBy result session.old.setting placed.now state accepted.old.commands.script accepted.old.schedule (D.known image.old) (D.known image.new)
+        (K.taken out.old) (K.taken out.new) }
+    ensures device { HasCause (D.known image.old).faults (D.known image.new).faults (IsErrOf result (run.Step (step.Disk _))) }
+    ensures write { HasCause (K.faults out.old) (K.faults out.new) (IsErrOf result (run.Write _)) }
+    ensures goes { Goes (D.known image.old) (D.known image.new) }
+    ensures keeps { D.keeps image.old image.new }
 {
     let mut buffered = Buffered::new(buffer, out);
-    write_trace(
+    take_words(
         session,
         &mut accepted.commands,
+        spare,
         &mut accepted.schedule,
+        image,
         &mut buffered,
     )
 }
@@ -83,27 +74,35 @@ fn open_and_step<D: Disk, K: Sink>(
     image: &mut D,
     out: &mut K,
 ) -> Ending
-    requires few { blocks_in_all accepted.commands.script ≤ most_blocks }
+    requires untouched { accepted.commands ≡ untouched accepted.commands.script }
     requires machine { IsMachine accepted.commands.script.machine }
     ensures steps { StartsAndTells result (D.known image.old) (D.known image.new) accepted.commands.script accepted.schedule (watch K.taken K.faults out.old out.new) }
-    ensures unchanged { Unchanged (D.known image.old) (D.known image.new) }
     ensures goes { Goes (D.known image.old) (D.known image.new) }
     ensures keeps { D.keeps image.old image.new }
     ensures never_fall { ((D.known image.old).faults ≤ (D.known image.new).faults) × (K.faults out.old ≤ K.faults out.new) }
 {
     let mut accepted = accepted;
+    let machine = accepted.commands.machine();
     let Ok(mut buffer) = Buffer::new(alloc) else {
         return Ending::Memory;
     };
-    let machine = accepted.commands.machine();
-    let more = accepted.commands.blocks() as u32;
-    let mut session = match Session::begin(alloc, machine, more, image) {
+    let Ok(mut spare) = Buffers::new(alloc, buffers_of(machine)) else {
+        return Ending::Memory;
+    };
+    let mut session = match Session::begin(alloc, machine, image) {
         Ok(session) => session,
         Err(fault) => return Ending::of_opening(fault),
     };
-    match write_out(&mut session, &mut accepted, &mut buffer, out) {
+    match write_out(
+        &mut session,
+        &mut accepted,
+        &mut spare,
+        &mut buffer,
+        image,
+        out,
+    ) {
         Ok(()) => Ending::Done,
-        Err(_) => Ending::Write,
+        Err(fault) => Ending::of_run(fault),
     }
 }
 
@@ -123,7 +122,6 @@ fn run_texts<S: Source, D: Disk, K: Sink>(
     ensures taken { IsTakenFromFront (watch S.left S.faults commands.old commands.new) × IsTakenFromFront (watch S.left S.faults schedule.old schedule.new) }
     ensures never_fall { (S.faults commands.old ≤ S.faults commands.new) × (S.faults schedule.old ≤ S.faults schedule.new)
         × ((D.known image.old).faults ≤ (D.known image.new).faults) × (K.faults out.old ≤ K.faults out.new) }
-    ensures unchanged { Unchanged (D.known image.old) (D.known image.new) }
     ensures goes { Goes (D.known image.old) (D.known image.new) }
     ensures keeps { D.keeps image.old image.new }
 {
@@ -196,8 +194,9 @@ fn carry_out<S: Source, K: Sink, D: Disk>(
 /// Carries out the command that the words of the command line name.
 ///
 /// `run` reads the commands file and then the schedule, opens `image` once both are accepted, takes the steps of the
-/// schedule from its files on, and writes the trace to `out`. The files are kept in memory: `image` is not written, and
-/// where a text is refused or a source fails it is not read. That each block of it is read once at most is tested.
+/// schedule from its files on, and writes the trace to `out`. The image is changed: at the end it has the files that were
+/// kept last, whatever a stop leaves then. Where a text is refused or a source fails nothing is asked of it. Lines are
+/// gathered, and handed on before each step that may change what the image keeps.
 ///
 /// `make --blocks N` and `make --blocks N --slack S` make an image of no files on `image`, over whatever that held,
 /// and write to `out` how many blocks it has.

@@ -1,10 +1,10 @@
-ghost use Rattle.std.specs.Prelude.{◌≡◌, ◌<◌, ◌≤◌, [], length, IsErrOf, IfOk, OnOk};
+ghost use Rattle.std.specs.Prelude.{◌≡◌, ◌<◌, ◌≤◌, length, IfOk};
 ghost use Rattle.nesc_base.specs.Fault.{HasCause, Rose};
-ghost use Rattle.early_script.specs.Limits.{most_bytes};
+ghost use Rattle.script_lang.specs.Limits.{most_bytes};
 ghost use Rattle.nesc_monitor.specs.Reading.{GivesAll, GivesTooMany, TakesFront};
 
-use early_script::MOST_BYTES;
 use nesc_base::{ReadFault, Source};
+use script_lang::MOST_BYTES;
 use std::alloc::{AllocError, Global};
 
 /// How many bytes are asked for in one call.

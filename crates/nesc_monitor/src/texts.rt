@@ -1,17 +1,26 @@
-ghost use Rattle.std.specs.Prelude.{◌≡◌, ◌≤◌, Some, length, IfErr, IfOk, OnOk};
-ghost use Rattle.early_requests.specs.Machine.{IsMachine};
-ghost use Rattle.early_script.specs.CommandsText.{IsCommandsText, blocks_in_all};
-ghost use Rattle.early_script.specs.Limits.{most_blocks, most_bytes};
-ghost use Rattle.early_script.specs.ScheduleText.{schedule_of};
+ghost use Rattle.std.specs.Prelude.{◌≡◌, ◌≤◌, Ok, length, IfErr, IfOk, OnOk};
+ghost use Rattle.nesc_requests.specs.Machine.{IsMachine};
+ghost use Rattle.script_lang.specs.CommandsText.{commands_of};
+ghost use Rattle.script_lang.specs.Left.{untouched};
+ghost use Rattle.script_lang.specs.Limits.{most_bytes};
+ghost use Rattle.script_lang.specs.ScheduleText.{schedule_of};
 ghost use Rattle.nesc_monitor.specs.Reading.{GivesAll};
 ghost use Rattle.nesc_monitor.specs.Texts.{IsReadWhole, IsRefusal, AreRefusedFor, IsTakenFromFront, SaysScript, SaysWords};
 ghost use Rattle.nesc_monitor.specs.Watched.{watch};
 
 use crate::ending::Ending;
 use crate::reading::{ReadStop, read_text};
-use early_script::{Commands, InputFault, Schedule, read_commands, read_schedule};
 use nesc_base::Source;
+use script_lang::{
+    Commands, InputFault, Limit, MOST_BYTES, Schedule, read_commands, read_schedule,
+};
 use std::alloc::Global;
+
+/// Why a text is refused that has more bytes than a text may have: it is told as the least such count.
+const TOO_LONG: InputFault = InputFault::OverLimit {
+    limit: Limit::Text,
+    count: MOST_BYTES as i64 + 1,
+};
 
 /// The two texts, as they were read.
 #[derive(Drop)]
@@ -42,34 +51,35 @@ fn read_texts<S: Source>(alloc: Global, commands: &mut S, schedule: &mut S) -> R
         Ok(text) => text,
         Err(ReadStop::NoMemory) => return Err(Ending::Memory),
         Err(ReadStop::Fault) => return Err(Ending::Read),
-        Err(ReadStop::TooLong) => return Err(Ending::Commands),
+        Err(ReadStop::TooLong) => return Err(Ending::Commands(TOO_LONG)),
     };
     let schedule = match read_text(alloc, schedule) {
         Ok(text) => text,
         Err(ReadStop::NoMemory) => return Err(Ending::Memory),
         Err(ReadStop::Fault) => return Err(Ending::Read),
-        Err(ReadStop::TooLong) => return Err(Ending::Schedule),
+        Err(ReadStop::TooLong) => return Err(Ending::Schedule(TOO_LONG)),
     };
     Ok(Texts { commands, schedule })
 }
 
 /// What the texts say. The commands are judged first.
 fn judge(alloc: Global, texts: &Texts) -> Result<Accepted, Ending>
-    ensures commands { IfOk result (λ accepted. IsCommandsText texts.now.commands.items accepted.commands.script) }
-    ensures schedule { IfOk result (λ accepted. schedule_of texts.now.schedule.items ≡ Some accepted.schedule) }
-    ensures few { IfOk result (λ accepted. blocks_in_all accepted.commands.script ≤ most_blocks) }
+    ensures commands { IfOk result (λ accepted. commands_of texts.now.commands.items ≡ Ok accepted.commands.script) }
+    ensures schedule { IfOk result (λ accepted. schedule_of accepted.commands.script.machine.functions texts.now.schedule.items ≡ Ok accepted.schedule) }
+    ensures untouched { IfOk result (λ accepted. accepted.commands ≡ untouched accepted.commands.script) }
     ensures machine { IfOk result (λ accepted. IsMachine accepted.commands.script.machine) }
     ensures refusal { IfErr result (λ ending. IsRefusal ending texts.now.commands.items texts.now.schedule.items) }
 {
     let commands = match read_commands(alloc, &texts.commands) {
         Ok(commands) => commands,
         Err(InputFault::NoMemory) => return Err(Ending::Memory),
-        Err(InputFault::Refused) => return Err(Ending::Commands),
+        Err(fault) => return Err(Ending::Commands(fault)),
     };
-    let schedule = match read_schedule(alloc, &texts.schedule) {
+    let functions = commands.machine().functions;
+    let schedule = match read_schedule(alloc, &texts.schedule, functions) {
         Ok(schedule) => schedule,
         Err(InputFault::NoMemory) => return Err(Ending::Memory),
-        Err(InputFault::Refused) => return Err(Ending::Schedule),
+        Err(fault) => return Err(Ending::Schedule(fault)),
     };
     Ok(Accepted { commands, schedule })
 }
@@ -81,9 +91,9 @@ pub fn read_script<S: Source>(
     schedule: &mut S,
 ) -> Result<Accepted, Ending>
     ensures commands { IfOk result (λ accepted. SaysScript (S.left commands.old) accepted.commands.script) }
-    ensures schedule { IfOk result (λ accepted. SaysWords (S.left schedule.old) accepted.schedule) }
+    ensures schedule { IfOk result (λ accepted. SaysWords accepted.commands.script.machine.functions (S.left schedule.old) accepted.schedule) }
     ensures read { OnOk result (IsReadWhole (watch S.left S.faults commands.old commands.new) × IsReadWhole (watch S.left S.faults schedule.old schedule.new)) }
-    ensures few { IfOk result (λ accepted. blocks_in_all accepted.commands.script ≤ most_blocks) }
+    ensures untouched { IfOk result (λ accepted. accepted.commands ≡ untouched accepted.commands.script) }
     ensures machine { IfOk result (λ accepted. IsMachine accepted.commands.script.machine) }
     ensures refused { IfErr result (λ ending. AreRefusedFor ending
         (watch S.left S.faults commands.old commands.new)

@@ -1,3 +1,4 @@
+pub mod Buffers
 pub mod Machine
 pub mod Requests
 pub mod Script

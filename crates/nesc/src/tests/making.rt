@@ -104,6 +104,9 @@ fn words_are_judged(rt: HostRuntime) -> Result<(), Fail> {
         (&["make", "--slack", "64", "--blocks", "16"], Status::Words),
         (&["make", "16"], Status::Words),
         (&["run", "--blocks", "16"], Status::Words),
+        (&["run", "--seed", "1"], Status::Words),
+        (&["run", "extra"], Status::Words),
+        (&[], Status::Words),
     ] {
         let (told, image) = make(alloc, words, 0, &[])?;
         assert_eq!(rt; told.status, status, "at {words:?}");

@@ -1,143 +1,114 @@
-use crate::tests::{block_of, superblock, tell_over};
-use nesc_base::{Block, Disk};
-use nesc_fakes::MemDisk;
+use crate::tests::{Piece, blocks_of, disk_of, done, run_over};
+use nesc_base::{Block, Disk, NoMemory};
 use nesc_monitor::Status;
+use std::alloc::Global;
 use std::test::Fail;
 
-const COMMANDS: &str = r#"host = ["get a 0 10", "get b 0 4", "create c 1", "attach 1 b"]
-    guest = [["r 0 3", "w 2 7777777777777777", "r 2 1"]]"#;
+/// A gate that is open, and the first one closed.
+const OPEN: &[u8] = &[0xa5; 1024];
 
-const SCHEDULE: &str = "h h h h g1 t t t g1 t g1 t";
+const CLOSED: Piece = (1, 1023, b"\0");
 
-const TRACE: &str =
-    "h data 3333333333333333 z z 1111111111111111 z z z z z 5555555555555555\nh data 2222222222222222 z 4444444444444444 z\nh ok\nh ok\ng 1 1\nt 1 0 walk 0\nt 1 1 hole 0\nt 1 2 walk 0\nr 1 1 ok 3 2222222222222222 z 4444444444444444\ng 1 2\nt 1 2 walk 0\nr 1 2 ok 1\ng 1 3\nt 1 2 walk 0\nr 1 3 ok 1 7777777777777777\ndone 12\n";
+/// A table of file 1, `a` of four blocks, and a map of which the first two data blocks are its block 0.
+const TABLE: Piece = (273, 0, b"\x01\x01\0\0\x04\0\0\0a");
 
-/// The blocks of the least image with file 1, `a` of ten blocks, and file 3, `b` of four, which hold five blocks, and
-/// a data block that none holds.
-fn two_files() -> [(usize, Block); 9] {
-    let table = block_of(&[
-        (0, b"\x01\x01\0\0\x0a\0\0\0a"),
-        (64, b"\x01\x01\0\0\x04\0\0\0b"),
-    ]);
-    let owners = block_of(&[
-        (0, b"\x01\0\0\0\x03"),
-        (8, b"\x03\0\0\0\0"),
-        (16, b"\x01\0\0\0\0"),
-        (32, b"\x03\0\0\0\x02"),
-        (40, b"\x01\0\0\0\x09"),
-    ]);
-    [
-        (0, superblock()),
-        (273, table),
-        (274, owners),
-        (275, Block([0x11; 1024])),
-        (276, Block([0x22; 1024])),
-        (277, Block([0x33; 1024])),
-        (278, Block([0x66; 1024])),
-        (279, Block([0x44; 1024])),
-        (280, Block([0x55; 1024])),
-    ]
+const OWNERS: Piece = (274, 0, b"\x01\0\0\0\0\0\0\0\x01");
+
+/// The first slot of the journal, open, with this table, a map and a data block, which is block 0 of the file.
+const SLOT: [Piece; 5] = [
+    (1, 0, OPEN),
+    (2, 0, b"\x03\0\0\0\x11\x01\0\0\x12\x01\0\0\x13\x01"),
+    (3, 0, b"\x01\x01\0\0\x04\0\0\0a"),
+    (4, 0, b"\x01"),
+    (5, 0, &[0x22; 1024]),
+];
+
+/// The first so many blocks of the least image with that slot, and then these pieces.
+fn image_of(alloc: Global, size: usize, more: &[Piece]) -> Result<Vec<Block>, NoMemory> {
+    let mut pieces = Vec::from_slice(alloc, &SLOT)?;
+    pieces.extend_from_slice(more)?;
+    blocks_of(alloc, size, &pieces)
 }
 
-// In each row the reads from one number on to before another fail in turn. The opening of `two_files` reads superblock,
-// gate, table, map and five data blocks.
+/// What makes such an image one that is refused, and how the line ends that says why: its size; the superblock; a list of
+/// too many targets, below the table, past the image, and not rising; the second list; the table; a file that is none; and
+/// a block that is held twice.
+const REFUSED: [(usize, &[Piece], &str); 11] = [
+    (0, &[], "size 0"),
+    (290, &[], "size 290"),
+    (291, &[(0, 0, b"M")], "super 0"),
+    (291, &[(2, 0, b"\x43")], "list 2"),
+    (291, &[(2, 4, b"\x10")], "list 2"),
+    (291, &[(2, 12, b"\x23")], "list 2"),
+    (291, &[(2, 8, b"\x11")], "list 2"),
+    (291, &[(69, 0, OPEN), (70, 0, b"\x43")], "list 70"),
+    (291, &[CLOSED, (273, 0, b"\x02")], "table 273"),
+    (291, &[CLOSED, (274, 8, b"\x01")], "owner 274"),
+    (291, &[CLOSED, TABLE, OWNERS], "twice 1 0"),
+];
+
 #[test]
-fn images_open_or_are_refused(rt: HostRuntime) -> Result<(), Fail> {
+fn a_refused_image_stays_as_it_is(rt: HostRuntime) -> Result<(), Fail> {
     let alloc = rt.alloc();
-    let files = two_files();
-    let first = superblock();
-    let open_gate = Block([0xa5; 1024]);
-    let mut torn_gate = open_gate;
-    torn_gate.0[512..].fill(0);
-    let long_list = block_of(&[(0, b"\x43")]);
-    let table = block_of(&[(0, b"\x01\x01\0\0\x04\0\0\0a")]);
-    let bad_table = block_of(&[(0, b"\x02")]);
-    let owner = block_of(&[(0, b"\x01")]);
-    let owners = block_of(&[(0, b"\x01"), (8, b"\x01")]);
-    let texts = (COMMANDS, SCHEDULE);
-    let none = ("", "");
-    for (size, blocks, (from, to), (commands, schedule), status, line) in [
-        (291, files.as_slice(), (10, 11), texts, Status::Done, TRACE),
-        (
-            291,
-            &files,
-            (1, 10),
-            texts,
-            Status::Device,
-            "nesc: device\n",
-        ),
-        (0, &[], (1, 2), none, Status::Image, "nesc: image size 0\n"),
-        (3, &[], (2, 3), none, Status::Image, "nesc: image super 0\n"),
-        (
-            290,
-            &[(0, first)],
-            (2, 3),
-            none,
-            Status::Image,
-            "nesc: image size 290\n",
-        ),
-        (
-            291,
-            &[(0, first), (1, open_gate), (2, long_list)],
-            (3, 4),
-            none,
-            Status::Image,
-            "nesc: image list 2\n",
-        ),
-        (
-            291,
-            &[(0, first), (1, torn_gate), (2, long_list)],
-            (5, 6),
-            none,
-            Status::Done,
-            "done 0\n",
-        ),
-        (
-            291,
-            &[(0, first), (273, bad_table)],
-            (4, 5),
-            none,
-            Status::Image,
-            "nesc: image table 273\n",
-        ),
-        (
-            291,
-            &[(0, first), (274, owner)],
-            (5, 6),
-            none,
-            Status::Image,
-            "nesc: image owner 274\n",
-        ),
-        (
-            291,
-            &[(0, first), (273, table), (274, owners)],
-            (6, 7),
-            none,
-            Status::Image,
-            "nesc: image twice 1 0\n",
-        ),
-        (
-            291,
-            &[],
-            (1, 2),
-            (COMMANDS, "x"),
-            Status::Input,
-            "nesc: input schedule\n",
-        ),
-    ] {
-        for read in from..to {
-            let mut image = MemDisk::with_blocks(alloc, size, blocks, &[read])?;
-            let told = tell_over(alloc, &["run"], commands, schedule, &mut image)?;
-            let (out, err) = if status == Status::Done {
-                (line, "")
-            } else {
-                ("", line)
-            };
-            assert_eq!(rt; told.status, status, "{line} at {read}");
-            assert_eq!(rt; told.out.bytes(), out.as_bytes());
-            assert_eq!(rt; told.err.bytes(), err.as_bytes());
-            assert_eq!(rt; image.clock(), 0);
+    for (size, pieces, end) in REFUSED {
+        let line = format!(in alloc; "nesc: image {end}\n")?;
+        let mut image = disk_of(alloc, image_of(alloc, size, pieces)?, &[], &[])?;
+        let told = run_over(alloc, "", "", &mut image)?;
+        assert_eq!(rt; told.said(), (Status::Image, "", line.as_str()));
+        assert!(rt;
+            *image.contents() == *image_of(alloc, size, pieces)?,
+            "{line}"
+        );
+    }
+    Ok(())
+}
+
+const NO_FILE: &str = "h nofile\ndone 1\n";
+
+/// What is put to such an image that opens, what is read of its file then, and how many writes and syncs the opening takes:
+/// nothing, which is replayed; a second slot, which wins; an empty list; closed gates, the second with a list that is none;
+/// and a second gate that is open alone.
+const OPENED: [(&[Piece], &str, u64); 6] = [
+    (&[], "h data 2222222222222222 z\ndone 1\n", 7),
+    (
+        &[
+            (69, 0, OPEN),
+            (70, 0, b"\x01\0\0\0\x13\x01"),
+            (71, 0, &[0x33; 1024]),
+        ],
+        "h data 3333333333333333 z\ndone 1\n",
+        9,
+    ),
+    (&[(2, 0, b"\0")], NO_FILE, 4),
+    (&[CLOSED], NO_FILE, 1),
+    (&[(1, 512, &[0; 512]), (2, 0, b"\x43")], NO_FILE, 1),
+    (&[CLOSED, (69, 0, OPEN)], NO_FILE, 3),
+];
+
+// Opened again, the image has nothing left to replay, and a sync is all.
+#[test]
+fn an_image_opens_as_what_it_stands_for(rt: HostRuntime) -> Result<(), Fail> {
+    let alloc = rt.alloc();
+    for (pieces, trace, clock) in OPENED {
+        let mut image = disk_of(alloc, image_of(alloc, 291, pieces)?, &[], &[])?;
+        for clock in [clock, clock.saturating_add(1)] {
+            let told = run_over(alloc, "host = ['get a 0 2']", "h", &mut image)?;
+            assert_eq!(rt; told.said(), done(trace));
+            assert_eq!(rt; image.clock(), clock, "{trace}");
         }
+    }
+    Ok(())
+}
+
+// What is replayed stays replayed, and is refused again for the same cause.
+#[test]
+fn an_image_is_judged_as_it_is_replayed(rt: HostRuntime) -> Result<(), Fail> {
+    let alloc = rt.alloc();
+    let mut image = disk_of(alloc, image_of(alloc, 291, &[(3, 0, b"\x02")])?, &[], &[])?;
+    for clock in [7, 8] {
+        let told = run_over(alloc, "", "", &mut image)?;
+        assert_eq!(rt; told.said(), (Status::Image, "", "nesc: image table 273\n"));
+        assert_eq!(rt; image.clock(), clock);
     }
     Ok(())
 }

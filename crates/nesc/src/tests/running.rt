@@ -1,62 +1,161 @@
-use crate::tests::{Told, line_of, new_image, no_disk, source_of, tell_over, tell_with};
+use crate::tests::{done, tell, times};
 use crate::without_memory;
-use nesc_base::NoMemory;
 use nesc_fakes::MemSink;
-use nesc_monitor::{Status, run};
-use std::alloc::{AllocError, Global};
+use nesc_monitor::Status;
 use std::test::Fail;
 
-/// What `run` answers over the least image, of no files.
-fn tell(alloc: Global, words: &[&str], commands: &str, schedule: &str) -> Result<Told, NoMemory> {
-    let mut image = new_image(alloc)?;
-    tell_over(alloc, words, commands, schedule, &mut image)
-}
+/// What is written is read back, and kept by a flush.
+const FLUSHED: (&str, &str, &str) = (
+    r#"host = ["create a 10", "attach 1 a"]
+       guest = [["w 3 1111111111111111", "r 2 3", "f"]]"#,
+    "h h g1 g1 g1 t i1 t t t t t",
+    "h ok\nh ok\ng 1 1\ng 1 2\ng 1 3\nt 1 3 miss unmapped 0\ni 1 hold 1\nt 1 3 walk 0\nr 1 1 ok 1\nt 1 2 hole 0\nt 1 3 walk 0\nt 1 4 hole 0\nr 1 2 ok 3 z 1111111111111111 z\nt 1 flush\nc 14\nr 1 3 flushed 14\ndone 12\n",
+);
 
-const GUEST_COMMANDS: &str = r#"host = ["create a 10", "attach 1 a"]
-    guest = [["w 3 1111111111111111", "r 2 3"]]"#;
+/// A restart goes back to what was synced.
+const RESTARTED: (&str, &str, &str) = (
+    r#"host = ["create a 4", "sync", "put a 0 2222222222222222", "get a 0 1", "get a 0 1",
+       "put a 0 2222222222222222", "sync", "get a 0 1"]"#,
+    "h h h h x h h h x h",
+    "h ok\nh ok\nc 10\nh ok\nh data 2222222222222222\nx\nh data z\nh ok\nh ok\nc 22\nx\nh data 2222222222222222\ndone 10\n",
+);
 
-const GUEST_SCHEDULE: &str = "h h g1 g1 t i1 t t t t";
-
-const GUEST_TRACE: &str =
-    "h ok\nh ok\ng 1 1\ng 1 2\nt 1 3 miss unmapped 0\ni 1 hold 1\nt 1 3 walk 0\nr 1 1 ok 1\nt 1 2 hole 0\nt 1 3 walk 0\nt 1 4 hole 0\nr 1 2 ok 3 z 1111111111111111 z\ndone 10\n";
-
-/// What `run` answers over sources and a sink of which these calls fail.
-fn tell_failing(alloc: Global, schedule: &str, fails: [&[u64]; 3]) -> Result<Told, NoMemory> {
-    let [commands_fail, schedule_fail, out_fail] = fails;
-    let commands = source_of(alloc, GUEST_COMMANDS.as_bytes(), commands_fail)?;
-    let schedule = source_of(alloc, schedule.as_bytes(), schedule_fail)?;
-    let mut image = new_image(alloc)?;
-    tell_with(alloc, &["run"], commands, schedule, &mut image, out_fail)
-}
+/// A new file has the number and the data block of one that went, and none of its bytes.
+const REUSED: (&str, &str, &str) = (
+    r#"host = ["create a 4", "put a 0 9999999999999999", "sync", "delete a", "create b 4", "map b 0 1", "sync", "get b 0 1"]"#,
+    "h h h h h h h x h",
+    "h ok\nh ok\nh ok\nc 14\nh ok\nh ok\nh ok\nh ok\nc 27\nx\nh data z\ndone 9\n",
+);
 
 #[test]
-fn each_failure_is_told(rt: HostRuntime) -> Result<(), Fail> {
-    let alloc = rt.alloc();
-    let none: &[u64] = &[];
-    for (fails, status, err) in [
-        ([none, none, none], Status::Done, ""),
-        ([&[1], none, none], Status::Read, "nesc: read\n"),
-        ([&[2], none, none], Status::Read, "nesc: read\n"),
-        ([none, &[1], none], Status::Read, "nesc: read\n"),
-        ([none, &[2], none], Status::Read, "nesc: read\n"),
-        ([none, none, &[1]], Status::Write, "nesc: write\n"),
-    ] {
-        let told = tell_failing(alloc, GUEST_SCHEDULE, fails)?;
-        let out = if status == Status::Done {
-            GUEST_TRACE
-        } else {
-            ""
-        };
-        assert_eq!(rt; told.status, status);
-        assert_eq!(rt; told.out.bytes(), out.as_bytes());
-        assert_eq!(rt; told.err.bytes(), err.as_bytes());
+fn files_are_kept(rt: HostRuntime) -> Result<(), Fail> {
+    for (commands, schedule, trace) in [("", "", "done 0\n"), FLUSHED, RESTARTED, REUSED] {
+        let told = tell(rt.alloc(), commands, schedule)?;
+        assert_eq!(rt; told.said(), done(trace));
     }
-    // A trace of many pieces, cut short at the third.
-    let told = tell_failing(alloc, "h h t*100000", [none, none, &[3]])?;
-    assert_eq!(rt; told.status, Status::Write);
-    let front = told.out.bytes();
-    assert!(rt; front.starts_with(b"h ok\nh ok\nt idle\nt idle\n"));
-    assert!(rt; front.len() > 1000 && front.len() < 700_000);
+    Ok(())
+}
+
+/// Two functions are served in turn.
+const IN_TURN: (&str, &str, &str) = (
+    r#"machine = { functions = 2 }
+       host = ["create a 3", "create b 3", "attach 1 a", "attach 2 b"]
+       guest = [["r 0 3"], ["r 0 3"]]"#,
+    "h h h h g1 g2 t*6",
+    "h ok\nh ok\nh ok\nh ok\ng 1 1\ng 2 1\nt 1 0 hole 0\nt 2 0 hole 0\nt 1 1 hole 0\nt 2 1 hole 0\nt 1 2 hole 0\nr 1 1 ok 3 z z z\nt 2 2 hole 0\nr 2 1 ok 3 z z z\ndone 12\n",
+);
+
+/// A request is turned away where its function has no file, and where as many wait as may.
+const TURNED_AWAY: (&str, &str, &str) = (
+    r#"host = ["create a 1", "attach 1 a"]
+       guest = [["r 0 1", "r 0 1", "r 0 1", "r 0 1", "r 0 1"]]"#,
+    "g1 h h g1 g1 g1 g1 g1 t g1 g1",
+    "g 1 off\nh ok\nh ok\ng 1 1\ng 1 2\ng 1 3\ng 1 4\ng 1 full\nt 1 0 hole 0\nr 1 1 ok 1 z\ng 1 5\ng 1 end\ndone 11\n",
+);
+
+/// Nobody is to be served before there is a request, nor while its function waits.
+const IDLE: (&str, &str, &str) = (
+    r#"host = ["create a 1", "attach 1 a"]
+       guest = [["w 0 1111111111111111"]]"#,
+    "t h h t i1 g1 t t h i1 i1 t",
+    "t idle\nh ok\nh ok\nt idle\ni 1 none\ng 1 1\nt 1 0 miss unmapped 0\nt idle\nh end\ni 1 hold 1\ni 1 none\nt 1 0 walk 0\nr 1 1 ok 1\ndone 12\n",
+);
+
+/// Requests that run past the end of the file, after some blocks.
+const PAST_THE_END: (&str, &str, &str) = (
+    r#"host = ["create a 4", "attach 1 a"]
+       guest = [["w 2 1111111111111111 2222222222222222 3333333333333333", "r 3 2"]]"#,
+    "h h g1 g1 t i1 t*5",
+    "h ok\nh ok\ng 1 1\ng 1 2\nt 1 2 miss unmapped 0\ni 1 hold 2\nt 1 2 walk 0\nt 1 3 walk 0\nt 1 4 range\nr 1 1 range 2\nt 1 3 walk 0\nt 1 4 range\nr 1 2 range 1\ndone 11\n",
+);
+
+#[test]
+fn guests_are_served(rt: HostRuntime) -> Result<(), Fail> {
+    for (commands, schedule, trace) in [IN_TURN, TURNED_AWAY, IDLE, PAST_THE_END] {
+        let told = tell(rt.alloc(), commands, schedule)?;
+        assert_eq!(rt; told.said(), done(trace));
+    }
+    Ok(())
+}
+
+/// A write ends for which no data block is free, and a read of a block that is not held does not need one.
+const NO_SPACE: (&str, &str, &str) = (
+    r#"machine = { functions = 2 }
+       host = ["create a 20", "create b 4", "map a 0 16", "attach 1 a", "attach 2 b"]
+       guest = [["w 16 4444444444444444"], ["r 0 1"]]"#,
+    "h h h h h g1 g2 t i1 t",
+    "h ok\nh ok\nh ok\nh ok\nh ok\ng 1 1\ng 2 1\nt 1 16 miss unmapped 0\ni 1 nospace\nr 1 1 nospace 0\nt 2 0 hole 0\nr 2 1 ok 1 z\ndone 10\n",
+);
+
+/// As many blocks are held as are free, and the write ends at the next.
+const SOME_SPACE: (&str, &str, &str) = (
+    r#"host = ["create a 20", "map a 0 14", "attach 1 a"]
+       guest = [["w 16 5555555555555555 6666666666666666 7777777777777777 8888888888888888"]]"#,
+    "h h h g1 t i1 t t t i1",
+    "h ok\nh ok\nh ok\ng 1 1\nt 1 16 miss unmapped 0\ni 1 hold 2\nt 1 16 walk 0\nt 1 17 walk 0\nt 1 18 miss unmapped 0\ni 1 nospace\nr 1 1 nospace 2\ndone 10\n",
+);
+
+/// The file is shortened before the host handles what a write waits for.
+const SHORTENED: (&str, &str, &str) = (
+    r#"host = ["create a 4", "attach 1 a", "resize a 2"]
+       guest = [["w 3 1111111111111111"]]"#,
+    "h h g1 t h i1 t",
+    "h ok\nh ok\ng 1 1\nt 1 3 miss unmapped 0\nh ok\ni 1 hold 0\nt 1 3 range\nr 1 1 range 0\ndone 7\n",
+);
+
+/// The host puts the block first that a write waits for.
+const PUT_FIRST: (&str, &str, &str) = (
+    r#"host = ["create a 4", "attach 1 a", "put a 3 aaaaaaaaaaaaaaaa", "get a 3 1"]
+       guest = [["w 3 1111111111111111"]]"#,
+    "h h g1 t h i1 t h",
+    "h ok\nh ok\ng 1 1\nt 1 3 miss unmapped 0\nh ok\ni 1 hold 0\nt 1 3 walk 0\nr 1 1 ok 1\nh data 1111111111111111\ndone 8\n",
+);
+
+#[test]
+fn what_is_waited_for_is_judged_when_it_is_handled(rt: HostRuntime) -> Result<(), Fail> {
+    for (commands, schedule, trace) in [NO_SPACE, SOME_SPACE, SHORTENED, PUT_FIRST] {
+        let told = tell(rt.alloc(), commands, schedule)?;
+        assert_eq!(rt; told.said(), done(trace));
+    }
+    Ok(())
+}
+
+// Sixty-four blocks are staged before the last write, as many as the slack is.
+#[test]
+fn a_commit_comes_where_the_slack_is_used_up(rt: HostRuntime) -> Result<(), Fail> {
+    let alloc = rt.alloc();
+    let host = "host = ['create a 1', 'map a 0 1', 'sync', 'attach 1 a']\nguest = [[";
+    let mut commands = times(alloc, host, "'w 0 1111111111111111', ", 65)?;
+    commands.push_str("]]")?;
+    let schedule = times(alloc, "h h h h", " g1 t", 65)?;
+    let mut trace = String::from_str(alloc, "h ok\nh ok\nh ok\nc 14\nh ok\n")?;
+    for id in 1..=65 {
+        let commit = if id == 65 { "c 23\n" } else { "" };
+        let lines = format!(in alloc; "g 1 {id}\n{commit}t 1 0 walk 0\nr 1 {id} ok 1\n")?;
+        trace.push_str(lines.as_str())?;
+    }
+    trace.push_str("done 134\n")?;
+    let told = tell(alloc, commands.as_str(), schedule.as_str())?;
+    assert_eq!(rt; told.said(), done(trace.as_str()));
+    Ok(())
+}
+
+/// Each of six rounds lets a request wait, has one too many, and drops the first in a restart. A machine with a queue of one
+/// has three buffers, so none may be lost.
+const DROPPED: (&str, &str, &str) = (
+    r#"machine = { queue = 1 }
+       host = ["create a 1", "sync", "attach 1 a", "attach 1 a",
+           "attach 1 a", "attach 1 a", "attach 1 a", "attach 1 a", "attach 1 a"]
+       guest = [["r 0 1", "w 0 z", "r 0 1", "w 0 z", "r 0 1", "w 0 z", "r 0 1", "w 0 z"]]"#,
+    "h h h g1 g1 x h g1 g1 x h g1 g1 x h g1 g1 x h g1 g1 x h g1 g1 x h g1 t",
+    "h ok\nh ok\nc 10\nh ok\ng 1 1\ng 1 full\nx\nh ok\ng 1 2\ng 1 full\nx\nh ok\ng 1 3\ng 1 full\nx\nh ok\ng 1 4\ng 1 full\nx\nh ok\ng 1 5\ng 1 full\nx\nh ok\ng 1 6\ng 1 full\nx\nh ok\ng 1 7\nt 1 0 hole 0\nr 1 7 ok 1 z\ndone 29\n",
+);
+
+#[test]
+fn requests_that_a_restart_drops_leave_room_for_others(rt: HostRuntime) -> Result<(), Fail> {
+    let (commands, schedule, trace) = DROPPED;
+    let told = tell(rt.alloc(), commands, schedule)?;
+    assert_eq!(rt; told.said(), done(trace));
     Ok(())
 }
 
@@ -66,209 +165,4 @@ fn want_of_memory_is_told(rt: HostRuntime) {
     let mut err = MemSink::new(alloc, Vec::new(alloc));
     assert_eq!(rt; without_memory(&mut err), Status::Memory);
     assert_eq!(rt; err.bytes(), b"nesc: memory\n".as_slice());
-}
-
-/// So many times one text, between two others.
-fn times(alloc: Global, front: &str, piece: &str, n: u32, end: &str) -> Result<String, AllocError> {
-    let mut text = String::from_str(alloc, front)?;
-    for _ in 0..n {
-        text.push_str(piece)?;
-    }
-    text.push_str(end)?;
-    Ok(text)
-}
-
-#[test]
-fn large_texts_have_limits(rt: HostRuntime) -> Result<(), Fail> {
-    let alloc = rt.alloc();
-    for (n, status) in [(64, Status::Done), (65, Status::Input)] {
-        let commands = times(alloc, "host = ['put a 0", " z", n, "']")?;
-        let told = tell(alloc, &["run"], commands.as_str(), "")?;
-        assert_eq!(rt; told.status, status);
-    }
-    for (end, status) in [("", Status::Done), (", 'r 0 1'", Status::Input)] {
-        let commands = times(alloc, "guest = [['r 0 64'", ", 'r 0 64'", 4095, end)?;
-        let commands = times(alloc, commands.as_str(), "", 0, "]]")?;
-        let told = tell(alloc, &["run"], commands.as_str(), "")?;
-        assert_eq!(rt; told.status, status);
-    }
-    for (n, status) in [(1_048_576, Status::Done), (1_048_577, Status::Input)] {
-        let text = times(alloc, "", "                ", n, "")?;
-        let told = tell(alloc, &["run"], "", text.as_str())?;
-        assert_eq!(rt; told.status, status);
-        let told = tell(alloc, &["run"], text.as_str(), "")?;
-        assert_eq!(rt; told.status, status);
-    }
-    Ok(())
-}
-
-#[test]
-fn answers_and_refusals(rt: HostRuntime) -> Result<(), Fail> {
-    let first_file = r#"host = ["create a 4", "put a 0 2222222222222222", "get a 0 2"]"#;
-    for (words, commands, schedule, status, out, err) in [
-        (
-            ["run"].as_slice(),
-            first_file,
-            "h h h",
-            Status::Done,
-            "h ok\nh ok\nh data 2222222222222222 z\ndone 3\n",
-            "",
-        ),
-        (&["run"], "", "", Status::Done, "done 0\n", ""),
-        (
-            &["run"],
-            "",
-            "h\r\n\th",
-            Status::Done,
-            "h end\nh end\ndone 2\n",
-            "",
-        ),
-        (
-            &["run"],
-            r#"host = ["get a 0 1", "put a 5 z", "create a 2", "create a 3", "put a 1 z z", "get a 2 1", "get a 1 1"]"#,
-            "h h h h h h h",
-            Status::Done,
-            "h nofile\nh nofile\nh ok\nh exists\nh range\nh range\nh data z\ndone 7\n",
-            "",
-        ),
-        (
-            &["run"],
-            "",
-            "x",
-            Status::Input,
-            "",
-            "nesc: input schedule\n",
-        ),
-        (
-            &["run"],
-            "guests = []",
-            "x",
-            Status::Input,
-            "",
-            "nesc: input commands\n",
-        ),
-        (
-            &["run"],
-            r#"host = ["create A 4"]"#,
-            "",
-            Status::Input,
-            "",
-            "nesc: input commands\n",
-        ),
-        (&[], "", "", Status::Words, "", "nesc: words\n"),
-        (
-            &["run", "extra"],
-            "",
-            "",
-            Status::Words,
-            "",
-            "nesc: words\n",
-        ),
-    ] {
-        let told = tell(rt.alloc(), words, commands, schedule)?;
-        assert_eq!(rt; told.status, status, "at {commands:?} {schedule:?}");
-        assert_eq!(rt;
-            told.out.bytes(),
-            out.as_bytes(),
-            "at {commands:?} {schedule:?}"
-        );
-        assert_eq!(rt;
-            told.err.bytes(),
-            err.as_bytes(),
-            "at {commands:?} {schedule:?}"
-        );
-    }
-    Ok(())
-}
-
-#[test]
-fn one_guest_is_served(rt: HostRuntime) -> Result<(), Fail> {
-    let waits = r#"host = ["create a 1", "attach 1 a"]
-        guest = [["w 0 1111111111111111"]]"#;
-    let asks_too_much = r#"host = ["create a 1", "attach 1 a"]
-        guest = [["r 0 1", "r 0 1", "r 0 1", "r 0 1", "r 0 1"]]"#;
-    let ends_past = r#"host = ["create a 4", "attach 1 a"]
-        guest = [["w 2 1111111111111111 2222222222222222 3333333333333333 4444444444444444"]]"#;
-    let one_is_held = r#"host = ["create a 4", "put a 1 aaaaaaaaaaaaaaaa", "attach 1 a"]
-        guest = [["w 0 1111111111111111 2222222222222222", "r 0 2"]]"#;
-    let reads_past = r#"host = ["create a 2", "attach 1 a"]
-        guest = [["r 1 3"]]"#;
-    let host_puts = r#"host = ["create a 4", "attach 1 a", "put a 3 aaaaaaaaaaaaaaaa", "get a 3 1"]
-        guest = [["w 3 1111111111111111"]]"#;
-    let attaches = r#"host = ["attach 1 a", "create a 1", "attach 1 a", "attach 1 a"]"#;
-    for (commands, schedule, out) in [
-        (
-            waits,
-            "t h h t i1 g1 t t h i1 i1 t",
-            "t idle\nh ok\nh ok\nt idle\ni 1 none\ng 1 1\nt 1 0 miss unmapped 0\nt idle\nh end\ni 1 hold 1\ni 1 none\nt 1 0 walk 0\nr 1 1 ok 1\ndone 12\n",
-        ),
-        (
-            asks_too_much,
-            "g1 h h g1 g1 g1 g1 g1 t g1 g1",
-            "g 1 off\nh ok\nh ok\ng 1 1\ng 1 2\ng 1 3\ng 1 4\ng 1 full\nt 1 0 hole 0\nr 1 1 ok 1 z\ng 1 5\ng 1 end\ndone 11\n",
-        ),
-        (
-            ends_past,
-            "h h g1 t i1 t*3",
-            "h ok\nh ok\ng 1 1\nt 1 2 miss unmapped 0\ni 1 hold 2\nt 1 2 walk 0\nt 1 3 walk 0\nt 1 4 range\nr 1 1 range 2\ndone 8\n",
-        ),
-        (
-            one_is_held,
-            "h h h g1 g1 t i1 t*4",
-            "h ok\nh ok\nh ok\ng 1 1\ng 1 2\nt 1 0 miss unmapped 0\ni 1 hold 1\nt 1 0 walk 0\nt 1 1 walk 0\nr 1 1 ok 2\nt 1 0 walk 0\nt 1 1 walk 0\nr 1 2 ok 2 1111111111111111 2222222222222222\ndone 11\n",
-        ),
-        (
-            reads_past,
-            "h h g1 t t",
-            "h ok\nh ok\ng 1 1\nt 1 1 hole 0\nt 1 2 range\nr 1 1 range 1\ndone 5\n",
-        ),
-        (
-            host_puts,
-            "h h g1 t h i1 t h",
-            "h ok\nh ok\ng 1 1\nt 1 3 miss unmapped 0\nh ok\ni 1 hold 0\nt 1 3 walk 0\nr 1 1 ok 1\nh data 1111111111111111\ndone 8\n",
-        ),
-        (
-            attaches,
-            "h h h h",
-            "h nofile\nh ok\nh ok\nh functiontaken\ndone 4\n",
-        ),
-    ] {
-        let told = tell(rt.alloc(), &["run"], commands, schedule)?;
-        assert_eq!(rt; told.status, Status::Done, "at {commands:?} {schedule:?}");
-        assert_eq!(rt;
-            told.out.bytes(),
-            out.as_bytes(),
-            "at {commands:?} {schedule:?}"
-        );
-    }
-    Ok(())
-}
-
-#[test]
-fn most_files_and_most_blocks(rt: HostRuntime) -> Result<(), Fail> {
-    let alloc = rt.alloc();
-    let mut commands = String::from_str(alloc, "host = [")?;
-    let mut schedule = String::new(alloc);
-    let mut want = String::new(alloc);
-    for file in 0..33 {
-        commands.push_str(format!(in alloc; "'create f{file} 64',")?.as_str())?;
-        schedule.push_str("h ")?;
-        want.push_str(if file < 32 { "h ok\n" } else { "h noslot\n" })?;
-    }
-    commands.push_str("'put f31 0")?;
-    let mut read = String::from_str(alloc, "h data")?;
-    for block in 0..64 {
-        let text = format!(in alloc; " 00000000000000{block:02x}")?;
-        commands.push_str(text.as_str())?;
-        read.push_str(if block == 0 { " z" } else { text.as_str() })?;
-    }
-    commands.push_str("', 'get f31 0 64']")?;
-    schedule.push_str("h h")?;
-    want.push_str("h ok\n")?;
-    want.push_str(read.as_str())?;
-    want.push_str("\ndone 35\n")?;
-    let told = tell(alloc, &["run"], commands.as_str(), schedule.as_str())?;
-    assert_eq!(rt; told.status, Status::Done);
-    assert_eq!(rt; told.out.bytes(), want.as_str().as_bytes());
-    Ok(())
 }

@@ -12,7 +12,7 @@ returns g c =
       outcome = c.carry_out-ending.result;
       every_command = EveryCommand-comes _ _ carried.comes (Writes-whole _ _ _ _ _ _ _ told) told.first carried.taken refl carried.goes carried.keeps carried.never_fall told.cause.never_falls;
       no_command = OfNoCommand-comes _ _ _ carried.comes carried.any_moment;
-      run = OfRun-comes _ _ _ carried.comes carried.any_moment;
+      run = OfRun-comes _ _ _ carried.comes;
       run_read_well = OfRunReadWell-comes _ _ _ carried.comes;
       make = OfMake-comes _ _ _ carried.comes carried.any_moment;
     }

@@ -1,72 +1,84 @@
-use Rattle.std.proofs.Common.{◌≡◌, ◌+◌, [], ◌∷◌, sym, ap, ◌∙◌, subst, arith}
-use Rattle.std.specs.FinMap.{empty}
-use Rattle.early_requests.specs.Script.{Script}
-use Rattle.early_requests.specs.declared.word.Word.{Word}
-use Rattle.early_model.specs.Draws.{left_after}
-use Rattle.early_model.specs.Files.{staged}
-use Rattle.early_model.specs.Groups.{end_group, group_of}
-use Rattle.early_model.specs.Machine.{StepTaken}
-use Rattle.early_model.specs.State.{State}
-use Rattle.early_model.specs.Traces.{IsTrace}
-use Rattle.early_model.proofs.Traces.{IsTrace-end, IsTrace-one}
-use Rattle.early_session.specs.Session.{state_of}
-use Rattle.nesc_monitor.specs.Steps.{ComesBack, room_for_script, with_back}
-use Rattle.nesc_monitor.proofs.DrawLemmas.{comes_back, drawn_from, left_behind, room-left_after, room-without}
+use Rattle.std.proofs.Common.{◌≡◌, true, None, Err, inl, inr, refl, sym, ap, ◌∙◌, arith, rules}
+use Rattle.nesc_base.specs.Sink.{Appends}
+use Rattle.text_kit.specs.Known.{AppendsPrefix}
+use Rattle.text_kit.proofs.WritesLemmas.{Grows-then}
+use Rattle.nesc_monitor.specs.Steps.{with_back}
+use Rattle.nesc_monitor.specs.declared.fault.RunFault.TheVariants as run
+use Rattle.nesc_monitor.proofs.DrawLemmas.{comes_back, same_machine}
+use Rattle.nesc_monitor.proofs.SpareLemmas.{one_spare, still_has}
+use Rattle.nesc_monitor.proofs.TellLemmas.{keeps_appends, keeps_prefix}
+use Rattle.nesc_monitor.proofs.WordLemmas.{comes_of_fault, handed_or_nothing, handed_where_asked, tells_end, tells_step}
 use Rattle.nesc_monitor.proofs.steps.take_word.Goals as goal
 
-pub returns-in_default-clause-told : goal.returns-in_default-clause-told
-returns-in_default-clause-told g c kept count =
-    let script = c.args.commands.now.script in
-    let state = state_of kept count c.args.session.now in
-    let trace = IsTrace-end c.args.session.now.setting state script c.args.word (sym c.draw.ensures.event ∙ c.in_default.is) in
-    let Traces : Script → Type 0 = λ rest. IsTrace c.args.session.now.setting state script (c.args.word ∷ []) (end_group c.args.word ∷ []) state rest in
-    (count, record { group = end_group c.args.word; trace = subst Traces (ap (λ left. left.script) (sym c.in_default.ensures.none)) trace; writes = c.write_end.ensures })
+pub draw-requires : goal.draw-requires
+draw-requires g c = record { some = one_spare _ _ _ c.requires.under_way.rests.sound c.requires.under_way.buffers }
 
-pub step-outcome-requires-clause-ready : goal.step-outcome-requires-clause-ready
-step-outcome-requires-clause-ready g c =
-    let script = c.args.commands.now.script in
-    let next = drawn_from script c.args.word c.in-Some.event (sym c.draw.ensures.event ∙ c.in-Some.is) in
-    record { room = omega (arith, c.requires.room, room-without script c.in-Some.event next.1); last = c.requires.last; few = c.requires.few; queue = c.requires.queue }
+pub hand_back-requires-clause-back : goal.hand_back-requires-clause-back
+hand_back-requires-clause-back g c =
+    comes_back c.draw.new.commands c.args.commands.now.script c.args.word c.in-Some.event c.in_ok-outcome.outcome.answer (sym c.in-Some.ensures.event) c.in-Some.ensures.out c.in-Some.ensures.fits
+    c.in_ok-outcome.ensures.back
 
-pub hand_back-requires : goal.hand_back-requires
-hand_back-requires g c =
-    let next = drawn_from c.args.commands.now.script c.args.word c.in-Some.event (sym c.draw.ensures.event ∙ c.in-Some.is) in
-    let step = c.step-outcome.ensures.steps.step empty 0 in
-    let Back : Word → Type 0 = λ word. ComesBack c.draw.new.commands word c.step-outcome.result.answer in
-    record { back = subst Back next.0 (comes_back c.draw.new.commands c.in-Some.event c.in-Some.ensures.out c.in-Some.ensures.fits step) }
+-- Nothing was left to give
 
-pub returns-clause-told : goal.returns-clause-told
-returns-clause-told g c kept count =
-    let script = c.args.commands.now.script in
-    let event = c.in-Some.event in
-    let outcome = c.step-outcome.result in
-    let draws = sym c.draw.ensures.event ∙ c.in-Some.is in
-    let next = drawn_from script c.args.word event draws in
-    let steps = c.step-outcome.ensures.steps in
-    let step = steps.step kept count in
-    let later = count + staged steps.changes in
-    let new : State = state_of kept later c.step-outcome.new.self in
-    let taken : StepTaken = record { old = state_of kept count c.args.session.now; event = event; changes = steps.changes; outcome = outcome; new = new } in
-    let rest : c.hand_back.new.commands.script ≡ left_after script event outcome.answer =
-    c.hand_back.ensures ∙ (λ i. with_back (c.in-Some.ensures.rest i) (sym next.0 i) outcome.answer) ∙ left_behind script event next.1 step in
-    let Traces : Script → Type 0 = λ left. IsTrace c.args.session.now.setting taken.old script (c.args.word ∷ []) (group_of c.args.word outcome ∷ []) new left in (
-      later,
-      record {
-        group = group_of c.args.word outcome;
-        trace = subst Traces (sym rest) (IsTrace-one c.args.session.now.setting script c.args.word taken draws step (steps.law kept count));
-        writes = c.write_step-told.ensures;
-      },
-    )
+pub returns-in_default-clause-comes : goal.returns-in_default-clause-comes
+returns-in_default-clause-comes g c tells kept state placed is =
+    let none : c.draw.result ≡ None = search rules in
+    tells_end Appends _ state placed kept _ _ _ _ _ _ _ is (sym c.draw.ensures.event ∙ none) (ap (λ left. left.script) c.in_default.ensures.none.0) c.in_ok-write_end.ensures.all
 
-pub returns-clause-ready : goal.returns-clause-ready
-returns-clause-ready g c =
-    let script = c.args.commands.now.script in
-    let event = c.in-Some.event in
-    let answer = c.step-outcome.result.answer in
-    let next = drawn_from script c.args.word event (sym c.draw.ensures.event ∙ c.in-Some.is) in
-    let step = c.step-outcome.ensures.steps.step empty 0 in
-    let rest : c.hand_back.new.commands.script ≡ left_after script event answer =
-    c.hand_back.ensures ∙ (λ i. with_back (c.in-Some.ensures.rest i) (sym next.0 i) answer) ∙ left_behind script event next.1 step in
-    let room = ap room_for_script rest in
-    c.step-outcome.ensures.ready (room_for_script c.hand_back.new.commands.script)
-    (record { room = omega (arith, c.requires.room, room-left_after script event next.1 answer, room); last = c.requires.last; few = c.requires.few; queue = c.requires.queue })
+pub returns-in_err-write_end-clause-comes : goal.returns-in_err-write_end-clause-comes
+returns-in_err-write_end-clause-comes g c tells kept state placed is =
+    let none : c.draw.result ≡ None = search rules in
+    let failed : c.from_residual.result ≡ Err (run.Write c.in_err-write_end.field-0.0) = search rules in
+    rw failed (inr (tells_end AppendsPrefix _ state placed kept _ _ _ _ _ _ _ is (sym c.draw.ensures.event ∙ none) (ap (λ left. left.script) c.in_default.ensures.none.0) c.in_err-write_end.ensures.first))
+
+-- The step was not taken
+
+pub returns-in_err-hand_on_before-clause-comes : goal.returns-in_err-hand_on_before-clause-comes
+returns-in_err-hand_on_before-clause-comes g c tells kept state placed is =
+    let failed : c.from_residual-in_err-hand_on_before.result ≡ Err (run.Write c.in_err-hand_on_before.field-0.0) = search rules in
+    rw failed (inl (record { is_in = is; same = c.hand_on_before.ensures.keeps }))
+
+pub returns-in_err-outcome-clause-comes : goal.returns-in_err-outcome-clause-comes
+returns-in_err-outcome-clause-comes g c tells kept state placed is =
+    let failed : c.from_residual-in_err-outcome.result ≡ Err (run.Step c.in_err-outcome.field-0.0) = search rules in
+    let call = c.in_err-outcome.ensures in
+    rw failed (comes_of_fault c.args.session.now state placed kept _ _ c.in-Some.event c.in_err-outcome.field-0.0 c.step.new.self _ _ c.draw.new.commands.script _ _ tells is (sym c.in-Some.ensures.event) call.asks
+    (handed_where_asked c.args.session.now c.in-Some.event _ _ _ c.in_ok-hand_on_before.ensures.in_time (call.asked (refl {a = true})) c.hand_on_before.ensures.keeps)
+    (record { never_falls = call.cause.never_falls; rose = λ is. call.cause.rose (ap Err is) }) call.leaves (λ image is. call.opens tells image (ap Err is)))
+
+-- The step was taken
+
+pub returns-clause-under_way : goal.returns-clause-under_way
+returns-clause-under_way g c =
+    let has = c.requires.under_way.buffers in
+    let step = c.in_ok-outcome.ensures in
+    let script = c.hand_back.ensures.script ∙ ap (λ script. with_back script c.args.word c.in_ok-outcome.outcome.answer) c.in-Some.ensures.rest in
+    let machine = ap (λ script. script.machine) script ∙ same_machine c.args.commands.now.script c.args.word c.in-Some.event c.in_ok-outcome.outcome.answer in
+    record {
+      rests = step.rests;
+      buffers = still_has c.args.commands.now _ c.args.spare.now _ c.args.session.now _ has step.setting machine c.hand_back.ensures.few
+          (omega (arith, c.in-Some.ensures.buffers, step.buffers, c.hand_back.ensures.buffers)) (c.hand_back.ensures.room ∙ step.room ∙ c.in-Some.ensures.room);
+    }
+
+pub returns-clause-comes : goal.returns-clause-comes
+returns-clause-comes g c tells kept state placed is =
+    let step = c.in_ok-outcome.ensures in
+    let left = c.hand_back.ensures.script ∙ ap (λ script. with_back script c.args.word c.in_ok-outcome.outcome.answer) c.in-Some.ensures.rest in
+    let told = handed_or_nothing _ _ _ _ c.in_ok-hand_on_before.ensures.in_time c.hand_on_before.ensures.keeps c.write_step-told.ensures.stays_lent.more in
+    tells_step Appends c.args.session.now state placed _ _ c.in-Some.event c.in_ok-outcome.outcome _ _ _ _ _ _ (step.steps tells kept state placed is) (sym c.in-Some.ensures.event) left
+    step.media step.quiet told (keeps_appends _ _ _ _ c.hand_on_before.ensures.keeps c.in_ok-told.ensures.all)
+
+pub returns-in_err-told-clause-comes : goal.returns-in_err-told-clause-comes
+returns-in_err-told-clause-comes g c tells kept state placed is =
+    let failed : c.from_residual-in_err-told.result ≡ Err (run.Write c.in_err-told.field-0.0) = search rules in
+    let step = c.in_ok-outcome.ensures in
+    let left = c.hand_back.ensures.script ∙ ap (λ script. with_back script c.args.word c.in_ok-outcome.outcome.answer) c.in-Some.ensures.rest in
+    let told = handed_or_nothing _ _ _ _ c.in_ok-hand_on_before.ensures.in_time c.hand_on_before.ensures.keeps c.write_step-told.ensures.stays_lent.more in
+    rw failed (inr (tells_step AppendsPrefix c.args.session.now state placed _ _ c.in-Some.event c.in_ok-outcome.outcome _ _ _ _ _ _ (step.steps tells kept state placed is) (sym c.in-Some.ensures.event) left
+    step.media step.quiet told (keeps_prefix _ _ _ _ c.hand_on_before.ensures.keeps c.in_err-told.ensures.first)))
+
+pub returns-clause-grows : goal.returns-clause-grows
+returns-clause-grows g c = Grows-then _ _ _ c.hand_on_before.ensures.grows c.write_step-told.ensures.stays_lent.more
+
+pub returns-in_err-told-clause-grows : goal.returns-in_err-told-clause-grows
+returns-in_err-told-clause-grows g c = Grows-then _ _ _ c.hand_on_before.ensures.grows c.write_step-told.ensures.stays_lent.more

@@ -1,8 +1,0 @@
-use Rattle.std.proofs.Common.{Ok, take}
-use Rattle.early_model.specs.Lines.{block_words}
-use Rattle.text_kit.specs.Writes.{Writes}
-use Rattle.early_trace.proofs.pieces.write_blocks.Given as goal
-
--- the first blocks are written
-abbrev pub invariant-loop-k : goal.invariant-loop-k
-invariant-loop-k g l = Writes g.K.Sink.taken g.K.Sink.faults g.K.Sink.lent l.initial.sink l.sink (block_words (take l.k l.blocks)) (Ok tt)

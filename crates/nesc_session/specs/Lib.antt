@@ -1,0 +1,6 @@
+pub mod Buffers
+pub mod Opening
+pub mod Requests
+pub mod Resting
+pub mod Serving
+pub mod Stepping

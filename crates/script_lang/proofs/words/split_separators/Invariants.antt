@@ -1,0 +1,7 @@
+use Rattle.std.proofs.Common.{◌≡◌, ℕ, ◌<◌, get_or, true}
+use Rattle.script_lang.specs.Words.{separates}
+use Rattle.script_lang.proofs.words.split_separators.Given as goal
+
+-- each byte so far separates words
+abbrev pub invariant-loop-i : goal.invariant-loop-i
+invariant-loop-i l = (k : ℕ) → k < l.i → separates l.separators (get_or l.text k 0) ≡ true
