@@ -1,5 +1,6 @@
 -- Bits in words of 64.
-use Rattle.std.specs.Prelude.{◌≡◌, ℕ, ◌*◌, ◌/◌, ◌%◌, ◌<◌, ◌≤◌, ◌^◌, ◌==◌, Bool, true, false, List, length, map, Some, slice_get, slice_index}
+use Rattle.std.specs.Prelude.{◌≡◌, ℕ, ◌*◌, ◌/◌, ◌%◌, ◌<◌, ◌≤◌, ◌^◌, ◌==◌, Bool, true}
+use Rattle.std.specs.Prelude.{false, List, length, map, Some, slice_get, slice_index}
 use Rattle.std.specs.List.{range_with_len}
 use Rattle.std.specs.Int.{bit_at as bit_of_word}
 
@@ -11,7 +12,8 @@ bit_at words k = bit_of_word (slice_index words (k / 64)) (k % 64) == 1
 abbrev pub bits_of : List ℕ → ℕ → List Bool
 bits_of words len = map (bit_at words) (range_with_len 0 len)
 
--- There are words for all bits, and so few that a u32 counts what they hold. No bit behind the last is set, and none before the hint.
+-- There are words for all bits, and so few that a u32 counts what they hold. No bit behind the last is set, and none
+-- before the hint.
 pub record AreBits (words : List ℕ) (len hint : ℕ) : Type 0 where
   pub enough : len ≤ 64 * length words
   pub fits : 64 * length words < 2 ^ 32

@@ -1,5 +1,6 @@
 -- A map of data blocks as its callers see it: who owns each, and so where the blocks of a file stand.
-use Rattle.std.specs.Prelude.{◌≡◌, ◌↔◌, ℕ, ◌+◌, ◌-◌, ◌^◌, ◌<◌, ◌≤◌, ◌==◌, Bool, false, List, length, Option, Some, None, is_none, slice_get, slice_set, replicate, refl}
+use Rattle.std.specs.Prelude.{◌≡◌, ◌↔◌, ℕ, ◌+◌, ◌-◌, ◌^◌, ◌<◌, ◌≤◌, ◌==◌, Bool, false, List, length}
+use Rattle.std.specs.Prelude.{Option, Some, None, is_none, slice_get, slice_set, replicate, refl}
 use Rattle.std.specs.Coded.{Coded, code_by, coded×, coded_list, coded_option, coded_ℕ}
 use Rattle.std.specs.List.{count_by}
 use Rattle.nesc_base.specs.declared.geometry.Geometry.{Geometry}

@@ -1,5 +1,6 @@
 -- The held blocks of all files as runs, in rising order of files and blocks.
-use Rattle.std.specs.Prelude.{◌≡◌, ◌⊎◌, ◌↔◌, ℕ, ◌+◌, ◌-◌, ◌<◌, ◌≤◌, Bool, ◌==◌, ◌||◌, ◌&&◌, nat_lt, nat_le, if◌then◌else◌, List, [], ◌∷◌, ◌++◌, Some, slice_get}
+use Rattle.std.specs.Prelude.{◌≡◌, ◌⊎◌, ◌↔◌, ℕ, ◌+◌, ◌-◌, ◌<◌, ◌≤◌, Bool, ◌==◌, ◌||◌, ◌&&◌, nat_lt}
+use Rattle.std.specs.Prelude.{nat_le, if◌then◌else◌, List, [], ◌∷◌, ◌++◌, Some, slice_get}
 use Rattle.std.specs.List.{sum_by}
 use Rattle.block_map.specs.declared.held_runs.HeldRun.{HeldRun}
 use Rattle.nesc_base.specs.declared.runs.Run.{Run}
@@ -20,7 +21,8 @@ IsBefore one next = (one.file.0 < next.file.0) ⊎ ((one.file.0 ≡ next.file.0)
 -- each is a run, and each stands before all that come later
 pub record AreHeldRuns (runs : List HeldRun) : Type 0 where
   pub each : (k : ℕ) (held : HeldRun) → slice_get runs k ≡ Some held → IsRun held.run
-  pub rising : (j k : ℕ) (one next : HeldRun) → j < k → slice_get runs j ≡ Some one → slice_get runs k ≡ Some next → IsBefore one next
+  pub rising : (j k : ℕ) (one next : HeldRun) → j < k → slice_get runs j ≡ Some one
+      → slice_get runs k ≡ Some next → IsBefore one next
 
 -- how many blocks they have
 abbrev pub blocks_in : List HeldRun → ℕ
@@ -111,7 +113,8 @@ pub record BeginsItself (runs : List HeldRun) (k n v at from first place : ℕ) 
 
 -- where k runs begin before the block, its own run is to stand from this place in order on and begins so
 abbrev pub IsBegin : List HeldRun → ℕ → ℕ → ℕ → ℕ → ℕ → ℕ → ℕ → Type 0
-IsBegin runs k n v at from first place = GoesOn runs k n v at from first place ⊎ BeginsItself runs k n v at from first place
+IsBegin runs k n v at from first place =
+    GoesOn runs k n v at from first place ⊎ BeginsItself runs k n v at from first place
 
 -- the run behind the first k goes on the block
 pub record IsGoneOn (runs : List HeldRun) (k n v at to end : ℕ) : Type 0 where
@@ -135,11 +138,19 @@ IsEnd runs k n v at to end = IsGoneOn runs k n v at to end ⊎ EndsItself runs k
 
 -- what is left of a run without block v, before it and behind it
 abbrev pub part_before : HeldRun → ℕ → List HeldRun
-part_before held v = if held.run.first == v then [] else record { file = held.file; run = record held.run { count = v - held.run.first } } ∷ []
+part_before held v = if held.run.first == v then []
+    else record { file = held.file; run = record held.run { count = v - held.run.first } } ∷ []
 
 abbrev pub part_behind : HeldRun → ℕ → List HeldRun
 part_behind held v =
-    if held.run.first + held.run.count == v + 1 then [] else record { file = held.file; run = record { first = v + 1; count = held.run.first + held.run.count - (v + 1); place = held.run.place + (v - held.run.first) + 1 } } ∷ []
+    if held.run.first + held.run.count == v + 1 then [] else record {
+      file = held.file;
+      run = record {
+        first = v + 1;
+        count = held.run.first + held.run.count - (v + 1);
+        place = held.run.place + (v - held.run.first) + 1;
+      };
+    } ∷ []
 
 abbrev pub parts_around : HeldRun → ℕ → List HeldRun
 parts_around held v = part_before held v ++ part_behind held v

@@ -1,5 +1,6 @@
 -- What a map of data blocks keeps in memory, each part of which says the same.
-use Rattle.std.specs.Prelude.{◌≡◌, ◌↔◌, ℕ, ◌+◌, ◌<◌, ◌≤◌, ◌^◌, Bool, List, length, map, Option, Some, is_none, slice_get}
+use Rattle.std.specs.Prelude.{◌≡◌, ◌↔◌, ℕ, ◌+◌, ◌<◌, ◌≤◌, ◌^◌, Bool, List}
+use Rattle.std.specs.Prelude.{length, map, Option, Some, is_none, slice_get}
 use Rattle.nesc_base.specs.Files.{most_files}
 use Rattle.nesc_base.specs.Geometry.{most_blocks}
 use Rattle.nesc_base.specs.Places.{IsOwned, Owner}
@@ -7,9 +8,10 @@ use Rattle.block_map.specs.declared.held_runs.HeldRun.{HeldRun}
 use Rattle.block_map.specs.Map.{MayHold, count_free, count_held}
 use Rattle.block_map.specs.Runs.{AreHeldRuns, IsAmong, blocks_in}
 
--- The runs have the blocks that the owners say, a bit is set for each data block that is free, the counts are right, and
--- there is memory for a run of each block.
-pub record IsSound (from : ℕ) (owners : List (Option Owner)) (runs : List HeldRun) (room : ℕ) (bits : List Bool) (free : ℕ) (held : List ℕ) : Type 0 where
+-- The runs have the blocks that the owners say, a bit is set for each data block that is free, the counts are right,
+-- and there is memory for a run of each block.
+pub record IsSound (from : ℕ) (owners : List (Option Owner)) (runs : List HeldRun) (room : ℕ) (bits : List Bool)
+    (free : ℕ) (held : List ℕ) : Type 0 where
   pub fits : from + length owners < 2 ^ 32
   pub few : length owners ≤ most_blocks
   pub may : (k : ℕ) (owner : Owner) → slice_get owners k ≡ Some (Some owner) → MayHold owner.0.0 owner.1

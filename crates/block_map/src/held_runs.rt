@@ -1,9 +1,12 @@
-ghost use Rattle.std.specs.Prelude.{◌≡◌, ◌↔◌, ℕ, ◌+◌, ◌<◌, ◌≤◌, ◌^◌, Decides, IfOk, MatchOption, Some, [], ◌∷◌, ◌++◌, drop, length, slice_get, take, vec_capacity};
+ghost use Rattle.std.specs.Prelude.{◌≡◌, ◌↔◌, ℕ, ◌+◌, ◌<◌, ◌≤◌, ◌^◌, Decides, IfOk, MatchOption};
+ghost use Rattle.std.specs.Prelude.{Some, [], ◌∷◌, ◌++◌, drop, length, slice_get, take, vec_capacity};
 ghost use Rattle.std.specs.List.{insert};
 ghost use Rattle.nesc_base.specs.Files.{longest_file};
 ghost use Rattle.nesc_base.specs.Runs.{AreRuns, IsIn, IsRun};
 ghost use Rattle.block_map.specs.declared.held_runs.HeldRun.{HeldRun};
-ghost use Rattle.block_map.specs.Runs.{AddsOne, AreHeldRuns, AreRunsAmong, BeginsBehind, BeginsBy, BeginsPast, EndsAt, IsAmong, IsBegin, IsEnd, IsLastAmong, IsNextAmong, IsNotAmong, LacksFrom, TakesOne, begins_by, blocks_in, parts_around};
+ghost use Rattle.block_map.specs.Runs.{AddsOne, AreHeldRuns, AreRunsAmong, BeginsBehind, BeginsBy, BeginsPast};
+ghost use Rattle.block_map.specs.Runs.{EndsAt, IsAmong, IsBegin, IsEnd, IsLastAmong, IsNextAmong, IsNotAmong};
+ghost use Rattle.block_map.specs.Runs.{LacksFrom, TakesOne, begins_by, blocks_in, parts_around};
 
 use nesc_base::{FileNo, NoMemory, Run, Runs};
 use std::alloc::Global;
@@ -21,7 +24,8 @@ impl HeldRun {
     fn place(&self, file: FileNo, v: u32) -> Option<u32>
         requires fits { self.now.run.place + self.now.run.count < 2 ^ 32 }
         requires ends { self.now.run.first + self.now.run.count < 2 ^ 32 }
-        ensures { MatchOption result ((at : _) → self.now.file.0 ≡ file.0 → ¬ IsIn self.now.run v at) (λ at. (self.now.file.0 ≡ file.0) × IsIn self.now.run v at) }
+        ensures { MatchOption result ((at : _) → self.now.file.0 ≡ file.0 → ¬ IsIn self.now.run v at)
+            (λ at. (self.now.file.0 ≡ file.0) × IsIn self.now.run v at) }
     {
         let run = &self.run;
         if self.file != file || v < run.first || run.first + run.count <= v {
@@ -77,8 +81,10 @@ impl HeldRuns {
     fn position(&self, file: FileNo, v: u32) -> usize
         requires { AreHeldRuns self.now.runs.items }
         ensures within { result ≤ length self.now.runs.items }
-        ensures by { (k : ℕ) (held : HeldRun) → k < result → slice_get self.now.runs.items k ≡ Some held → BeginsBy file.0 v held }
-        ensures past { (k : ℕ) (held : HeldRun) → result ≤ k → slice_get self.now.runs.items k ≡ Some held → BeginsPast file.0 v held }
+        ensures by { (k : ℕ) (held : HeldRun) → k < result → slice_get self.now.runs.items k ≡ Some held
+            → BeginsBy file.0 v held }
+        ensures past { (k : ℕ) (held : HeldRun) → result ≤ k → slice_get self.now.runs.items k ≡ Some held
+            → BeginsPast file.0 v held }
     {
         self.runs.partition_point(|held| held.begins_by(file, v))
     }
@@ -95,7 +101,8 @@ impl HeldRuns {
     /// The first run that has a block of the file from `from` on, or `None` where there is none.
     pub fn next(&self, file: FileNo, from: u32) -> Option<Run>
         requires { AreHeldRuns self.now.runs.items }
-        ensures { MatchOption result (LacksFrom self.now.runs.items file.0 from) (IsNextAmong self.now.runs.items file.0 from) }
+        ensures { MatchOption result
+            (LacksFrom self.now.runs.items file.0 from) (IsNextAmong self.now.runs.items file.0 from) }
     {
         let k = self.position(file, from);
         if let Some(before) = k.checked_sub(1) {
@@ -148,8 +155,8 @@ impl HeldRuns {
         self.put_over(from, to, HeldRun { file, run });
     }
 
-    // Where the run that a new block belongs to begins, if `k` runs begin before the block: at which place in order, with
-    // which block, and where that stands. The block goes on the last of those `k`, or its run begins with it.
+    // Where the run that a new block belongs to begins, if `k` runs begin before the block: at which place in order,
+    // with which block, and where that stands. The block goes on the last of those `k`, or its run begins with it.
     fn begin(&self, k: usize, file: FileNo, v: u32, at: u32) -> (usize, u32, u32)
         requires sound { AreHeldRuns self.now.runs.items }
         requires within { k ≤ length self.now.runs.items }
@@ -211,7 +218,8 @@ impl HeldRuns {
     pub fn take(&mut self, file: FileNo, v: u32) -> Option<u32>
         requires sound { AreHeldRuns self.old.runs.items }
         requires room { blocks_in self.old.runs.items ≤ vec_capacity self.old.runs }
-        ensures taken { MatchOption result (IsNotAmong self.old.runs.items file.0 v × (self.new ≡ self.old)) (λ at. IsAmong self.old.runs.items file.0 v at × TakesOne self.old.runs.items file.0 v self.new.runs.items) }
+        ensures taken { MatchOption result (IsNotAmong self.old.runs.items file.0 v × (self.new ≡ self.old)) (λ at.
+            IsAmong self.old.runs.items file.0 v at × TakesOne self.old.runs.items file.0 v self.new.runs.items) }
         ensures sound { AreHeldRuns self.new.runs.items }
         ensures room { vec_capacity self.new.runs ≡ vec_capacity self.old.runs }
     {
@@ -228,7 +236,8 @@ impl HeldRuns {
         requires is_run { IsRun held.run }
         requires within { IsIn held.run v at }
         requires room { 3 ≤ held.run.count → length self.old.runs.items < vec_capacity self.old.runs }
-        ensures items { self.new.runs.items ≡ take k self.old.runs.items ++ (parts_around held v ++ drop (k + 1) self.old.runs.items) }
+        ensures items { self.new.runs.items ≡ take k self.old.runs.items
+            ++ (parts_around held v ++ drop (k + 1) self.old.runs.items) }
         ensures room { vec_capacity self.new.runs ≡ vec_capacity self.old.runs }
     {
         let HeldRun { file, run } = held;
@@ -271,7 +280,8 @@ impl HeldRuns {
         requires { AreHeldRuns self.now.runs.items }
         ensures rising { result.0 ≤ result.1 }
         ensures within { result.1 ≤ length self.now.runs.items }
-        ensures each { (k : ℕ) (held : HeldRun) → slice_get self.now.runs.items k ≡ Some held → (held.file.0 ≡ file.0) ↔ ((result.0 ≤ k) × (k < result.1)) }
+        ensures each { (k : ℕ) (held : HeldRun) → slice_get self.now.runs.items k ≡ Some held
+            → (held.file.0 ≡ file.0) ↔ ((result.0 ≤ k) × (k < result.1)) }
     {
         let from = self.runs.partition_point(|held| held.file.0 < file.0);
         let to = self.runs.partition_point(|held| held.file.0 <= file.0);

@@ -1,6 +1,8 @@
 ghost use Rattle.std.specs.Prelude.{◌≡◌, ◌+◌, ◌-◌, ◌<◌, ◌≤◌, ◌^◌, IfOk, MatchOption, None, Some, length, slice_get};
 ghost use Rattle.nesc_base.specs.Geometry.{IsGeometry};
-ghost use Rattle.block_map.specs.Map.{AreRunsIn, BlockMap, HoldsNoneFrom, IsFreeAt, IsFull, IsLastHeld, IsLowestFree, IsMap, IsNextHeld, IsNextRun, IsPlace, IsUnheld, MayHold, StandsAt, cleared, count_free, count_held, empty_map, with_owner};
+ghost use Rattle.block_map.specs.Map.{AreRunsIn, BlockMap, HoldsNoneFrom, IsFreeAt, IsFull, IsLastHeld};
+ghost use Rattle.block_map.specs.Map.{IsLowestFree, IsMap, IsNextHeld, IsNextRun, IsPlace, IsUnheld, MayHold};
+ghost use Rattle.block_map.specs.Map.{StandsAt, cleared, count_free, count_held, empty_map, with_owner};
 
 use crate::free_bits::FreeBits;
 use crate::held_runs::{FileRuns, HeldRuns};
@@ -12,8 +14,8 @@ use std::marker::Model;
 /// stands at two places.
 ///
 /// Places are numbers of blocks of the image. A block is found by a binary search among the runs of all files, and the
-/// lowest free data block by a look at words of 64 bits, from the lowest on that may have one. What is given or taken back
-/// may move the runs that come later in memory.
+/// lowest free data block by a look at words of 64 bits, from the lowest on that may have one. What is given or taken
+/// back may move the runs that come later in memory.
 #[derive(Drop)]
 pub struct BlockMap {
     from: u32,
@@ -40,12 +42,13 @@ impl Model for BlockMap {
 
     ghost view = { λ m. record { from = m.from; owners = m.owners.items } };
 
-    ghost invariant = { λ m. IsSound m.from m.owners.items m.runs.runs.items (vec_capacity m.runs.runs) m.free_bits m.free m.held };
+    ghost invariant = { λ m.
+        IsSound m.from m.owners.items m.runs.runs.items (vec_capacity m.runs.runs) m.free_bits m.free m.held };
 }
 
 impl BlockMap {
-    /// A map of the data blocks of images of this division, each of them free. An `Err` says that there is no memory for
-    /// it. No other call takes any.
+    /// A map of the data blocks of images of this division, each of them free. An `Err` says that there is no memory
+    /// for it. No other call takes any.
     pub fn new(alloc: Global, geometry: Geometry) -> Result<BlockMap, NoMemory>
         requires { IsGeometry geometry }
         ensures { IfOk result (λ map. map ≡ empty_map geometry) }
@@ -106,7 +109,8 @@ impl BlockMap {
     pub fn give(&mut self, file: FileNo, v: u32) -> Option<u32>
         requires may { MayHold file.0 v }
         requires unheld { IsUnheld self.old file.0 v }
-        ensures { MatchOption result (IsFull self.old × (self.new ≡ self.old)) (λ at. IsLowestFree self.old at × (self.new ≡ with_owner self.old at (Some (file, v)))) }
+        ensures { MatchOption result (IsFull self.old × (self.new ≡ self.old))
+            (λ at. IsLowestFree self.old at × (self.new ≡ with_owner self.old at (Some (file, v)))) }
     {
         let at = self.from + self.free_bits.seek()?;
         self.set(at, file, v);
@@ -131,7 +135,8 @@ impl BlockMap {
     /// Takes back the data block of block `v` of the file, and says its place, or `None` where the file does not hold
     /// the block.
     pub fn take_back(&mut self, file: FileNo, v: u32) -> Option<u32>
-        ensures { MatchOption result (IsUnheld self.old file.0 v × (self.new ≡ self.old)) (λ at. StandsAt self.old file.0 v at × (self.new ≡ with_owner self.old at None)) }
+        ensures { MatchOption result (IsUnheld self.old file.0 v × (self.new ≡ self.old))
+            (λ at. StandsAt self.old file.0 v at × (self.new ≡ with_owner self.old at None)) }
     {
         let at = self.runs.take(file, v)?;
         let k = at - self.from;
@@ -144,7 +149,8 @@ impl BlockMap {
 
     /// The first block from `from` on that the file holds, and its place, or `None` where there is none.
     pub fn next_held(&self, file: FileNo, from: u32) -> Option<(u32, u32)>
-        ensures { MatchOption result (HoldsNoneFrom self.now file.0 from) (λ found. IsNextHeld self.now file.0 from found.0 found.1) }
+        ensures { MatchOption result (HoldsNoneFrom self.now file.0 from)
+            (λ found. IsNextHeld self.now file.0 from found.0 found.1) }
     {
         let run = self.next_run(file, from)?;
         let v = run.first.max(from);
@@ -153,7 +159,8 @@ impl BlockMap {
 
     /// The last block that the file holds, and its place, or `None` where it holds none.
     pub fn last_held(&self, file: FileNo) -> Option<(u32, u32)>
-        ensures { MatchOption result (HoldsNoneFrom self.now file.0 0) (λ found. IsLastHeld self.now file.0 found.0 found.1) }
+        ensures { MatchOption result (HoldsNoneFrom self.now file.0 0)
+            (λ found. IsLastHeld self.now file.0 found.0 found.1) }
     {
         let run = self.runs.last(file)?;
         Some((run.first + (run.count - 1), run.place + (run.count - 1)))

@@ -235,8 +235,8 @@ fn new_disk(alloc: Global) -> Result<MemDisk, NoMemory> {
     MemDisk::with_blocks(alloc, 291, &[(0, write_super(LEAST))], &[])
 }
 
-/// Does these to the files of the image on the disk and commits, and says how many were answered so, how much room there was
-/// before the commit, and how many data blocks are free.
+/// Does these to the files of the image on the disk and commits, and says how many were answered so, how much room
+/// there was before the commit, and how many data blocks are free.
 fn run_on(
     alloc: Global,
     disk: &mut MemDisk,

@@ -239,7 +239,8 @@ fn a_commit_that_fails_leaves_what_its_syncs_bound(rt: HostRuntime) -> Result<()
     let list = (2, list_block(&[TABLE_AT], LEAST, 0));
     let (data, home) = ((3, block(1)), (TABLE_AT as usize, block(1)));
     let gate = (1, open_gate());
-    // Before the commit, with its slot written, with the gate open, with the table home, and with the gate closed again.
+    // Before the commit, with its slot written, with the gate open, with the table home, and with the gate closed
+    // again.
     let images = [
         image_with(alloc, &[])?,
         image_with(alloc, &[list, data])?,

@@ -8,7 +8,8 @@ use Rattle.nesc_base.specs.Files.{File, Files, file_at}
 use Rattle.nesc_base.specs.Geometry.{area_from, block_owners, map_at, table_at}
 use Rattle.nesc_base.specs.Places.{Owns, Places}
 use Rattle.block_map.specs.Map.{BlockMap, IsFreeAt, StandsAt}
-use Rattle.file_model.specs.Files.{Creates, Deletes, LeadsTo, Puts, Resizes, below, holding, puts_from, unheld, unheld_below}
+use Rattle.file_model.specs.Files.{Creates, Deletes, LeadsTo, Puts, Resizes, below}
+use Rattle.file_model.specs.Files.{holding, puts_from, unheld, unheld_below}
 use Rattle.file_model.specs.Places.{Gives, cut_at, with_file, without_file}
 use Rattle.host_journal.specs.Journal.{IsJournal, Journal, staging}
 use Rattle.file_layer.specs.Layer.{Layer}
@@ -18,11 +19,13 @@ use Rattle.file_layer.specs.Showing.{Shows}
 abbrev pub Leads : (Files → Places → Files → Places → Type 0) → Layer → Journal → Layer → Journal → Type 0
 Leads change old before new after =
     (kept : List Block) (set : Files) (places : Places) → Shows old before.staged kept set places
-    → (others : Files) × (elsewhere : Places) × change set places others elsewhere × Shows new after.staged kept others elsewhere
+    → (others : Files) × (elsewhere : Places) × change set places others elsewhere
+    × Shows new after.staged kept others elsewhere
 
 -- The changes, each of files and of places
 
-pub record IsCreated (n : ℕ) (name : List ℕ) (length : ℕ) (old : Files) (places : Places) (new : Files) (elsewhere : Places) : Type 0 where
+pub record IsCreated (n : ℕ) (name : List ℕ) (length : ℕ) (old : Files) (places : Places) (new : Files)
+    (elsewhere : Places) : Type 0 where
   pub creates : Creates old n name length new
   pub files : elsewhere ≡ with_file places n
 
@@ -42,7 +45,8 @@ pub record IsShortened (n length : ℕ) (old : Files) (places : Places) (new : F
   pub cut : elsewhere ≡ cut_at places n length
 
 -- these blocks, if there are any, come to be held, each at the lowest free place in turn
-pub record AreFilled (area : Area) (n : ℕ) (blocks : List ℕ) (old : Files) (places : Places) (new : Files) (elsewhere : Places) : Type 0 where
+pub record AreFilled (area : Area) (n : ℕ) (blocks : List ℕ) (old : Files) (places : Places) (new : Files)
+    (elsewhere : Places) : Type 0 where
   pub leads : LeadsTo old (holding n blocks) new
   pub gives : Gives area places n blocks elsewhere
 
@@ -55,7 +59,8 @@ abbrev pub AreMapped : Area → ℕ → ℕ → ℕ → Files → Places → Fil
 AreMapped area n v count old = AreFilled area n (unheld (file_at old n) v count) old
 
 -- and then all are put
-pub record ArePut (area : Area) (n v : ℕ) (blocks : List Block) (old : Files) (places : Places) (new : Files) (elsewhere : Places) : Type 0 where
+pub record ArePut (area : Area) (n v : ℕ) (blocks : List Block) (old : Files) (places : Places) (new : Files)
+    (elsewhere : Places) : Type 0 where
   pub leads : LeadsTo old (holding n (unheld (file_at old n) v (length blocks)) ++ puts_from n v blocks) new
   pub gives : Gives area places n (unheld (file_at old n) v (length blocks)) elsewhere
 
@@ -79,7 +84,8 @@ Forgets old new after = (at : ℕ) → ChangesOwner old new at → IsFreeAt new 
 -- a data block that changes its owner, or the map block that has its owner
 abbrev pub IsOfOwners : Geometry → BlockMap → BlockMap → ℕ → Type 0
 IsOfOwners geometry old new at =
-    (block : ℕ) × (area_from geometry ≤ block) × ChangesOwner old new block × ((at ≡ block) ⊎ (at ≡ map_block_of geometry block))
+    (block : ℕ) × (area_from geometry ≤ block) × ChangesOwner old new block
+    × ((at ≡ block) ⊎ (at ≡ map_block_of geometry block))
 
 -- a place of one of so many blocks of the file from v on
 abbrev pub IsOfBlocks : BlockMap → ℕ → ℕ → ℕ → ℕ → Type 0
@@ -99,5 +105,6 @@ pub record GoesOn (old new : Journal) : Type 0 where
 -- a block that is staged for the place of block v of file n is that block of the file
 abbrev pub PutsAt : Layer → Journal → Type 0
 PutsAt files journal =
-    (n v at : ℕ) (block : Block) (kept : List Block) (set : Files) (places : Places) → Shows files journal.staged kept set places → Owns places n v at
+    (n v at : ℕ) (block : Block) (kept : List Block) (set : Files) (places : Places) →
+    Shows files journal.staged kept set places → Owns places n v at
     → (others : Files) × Puts set n v block others × Shows files (staging journal at block).staged kept others places

@@ -3,7 +3,7 @@ use Rattle.std.specs.Prelude.{◌≡◌, ℕ, ◌+◌, ◌-◌, ◌/◌, ◌≤�
 use Rattle.nesc_base.specs.declared.block.Block.{Block}
 use Rattle.nesc_base.specs.declared.geometry.Geometry.{Geometry}
 use Rattle.nesc_base.specs.Files.{Files}
-use Rattle.nesc_base.specs.Geometry.{area_from, block_owners}
+use Rattle.nesc_base.specs.Geometry.{area_from, block_owners, most_map_blocks}
 use Rattle.nesc_base.specs.Places.{Owner, Places}
 use Rattle.block_map.specs.Map.{BlockMap, count_free}
 use Rattle.file_model.specs.Files.{LeadsTo, puts_from}
@@ -30,20 +30,26 @@ pub record Grows (count : ℕ) (marks : List Bool) (old new : Layer) : Type 0 wh
   pub layer : IsLayer new
   pub geometry : new.geometry ≡ old.geometry
   pub table : new.table ≡ old.table
-  pub stay : (k : ℕ) (owner : Owner) → slice_get old.map.owners k ≡ Some (Some owner) → slice_get new.map.owners k ≡ Some (Some owner)
+  pub stay : (k : ℕ) (owner : Owner) → slice_get old.map.owners k ≡ Some (Some owner)
+      → slice_get new.map.owners k ≡ Some (Some owner)
   pub fewer : count_free new.map.owners + count ≡ count_free old.map.owners
-  pub counted : length marks ≡ 512
-  pub marked : (b : ℕ) → IsMarked marks b → (at : ℕ) × IsGiven old.geometry old.map new.map at × (b ≡ (at - area_from old.geometry) / block_owners)
+  pub counted : length marks ≡ most_map_blocks
+  pub marked : (b : ℕ) → IsMarked marks b
+      → (at : ℕ) × IsGiven old.geometry old.map new.map at × (b ≡ (at - area_from old.geometry) / block_owners)
 
--- Whatever the blocks show before, behind it these blocks of the file are held too, and the blocks show that but for what is
--- left.
+-- Whatever the blocks show before, behind it these blocks of the file are held too, and the blocks show that but for
+-- what is left.
 abbrev pub FillsBut : ℕ → List ℕ → List Bool → Left → Layer → Staged → Layer → Staged → Type 0
 FillsBut n blocks marks left old before new after =
     (kept : List Block) (set : Files) (places : Places) → Shows old before kept set places
-    → (others : Files) × (elsewhere : Places) × AreFilled (area_of old.geometry) n blocks set places others elsewhere × ShowsBut marks left new after kept others elsewhere
+    → (others : Files) × (elsewhere : Places) × AreFilled (area_of old.geometry) n blocks set places others elsewhere
+    × ShowsBut marks left new after kept others elsewhere
 
--- Whatever the blocks show but for these blocks of the file, they show behind it with the blocks put, and nothing left out.
+-- Whatever the blocks show but for these blocks of the file, they show behind it with the blocks put, and nothing left
+-- out.
 abbrev pub PutsBut : List Bool → ℕ → ℕ → List Block → Layer → Staged → Staged → Type 0
 PutsBut marks n v blocks files before after =
-    (kept : List Block) (set : Files) (places : Places) → ShowsBut marks (left_of n v (v + length blocks)) files before kept set places
-    → (others : Files) × LeadsTo set (puts_from n v blocks) others × ShowsBut marks (left_of n (v + length blocks) (v + length blocks)) files after kept others places
+    (kept : List Block) (set : Files) (places : Places) →
+    ShowsBut marks (left_of n v (v + length blocks)) files before kept set places
+    → (others : Files) × LeadsTo set (puts_from n v blocks) others
+    × ShowsBut marks (left_of n (v + length blocks) (v + length blocks)) files after kept others places

@@ -1,5 +1,6 @@
 -- The files of an image as they are kept in memory: what the table says, and who owns each data block.
-use Rattle.std.specs.Prelude.{◌≡◌, ℕ, ◌+◌, ◌-◌, ◌*◌, ◌≤◌, ◌==◌, ◌&&◌, nat_lt, not, Bool, false, List, ◌++◌, length, filter, Option, Some, None, IsSome, if◌then◌else◌, replicate, slice_get, unwrap_or}
+use Rattle.std.specs.Prelude.{◌≡◌, ℕ, ◌+◌, ◌-◌, ◌*◌, ◌≤◌, ◌==◌, ◌&&◌, nat_lt, not, Bool, false, List, ◌++◌, length}
+use Rattle.std.specs.Prelude.{filter, Option, Some, None, IsSome, if◌then◌else◌, replicate, slice_get, unwrap_or}
 use Rattle.std.specs.List.{list_any, range_with_len}
 use Rattle.nesc_base.specs.declared.geometry.Geometry.{Geometry}
 use Rattle.nesc_base.specs.declared.runs.Area.{Area}
@@ -32,16 +33,18 @@ area_of geometry = record { from = area_from geometry; to = total geometry }
 
 -- each owner stands once
 abbrev pub AreApartOwners : List (Option Owner) → Type 0
-AreApartOwners owners = (j k : ℕ) (owner : Owner) → slice_get owners j ≡ Some (Some owner) → slice_get owners k ≡ Some (Some owner) → j ≡ k
+AreApartOwners owners = (j k : ℕ) (owner : Owner) → slice_get owners j ≡ Some (Some owner)
+    → slice_get owners k ≡ Some (Some owner) → j ≡ k
 
--- what they are in themselves: the table has entries as there may be, there is an owner, or none, for each data block, and
--- each owner is a file that has the block, and owns it once
+-- what they are in themselves: the table has entries as there may be, there is an owner, or none, for each data block,
+-- and each owner is a file that has the block, and owns it once
 pub record IsLayer (files : Layer) : Type 0 where
   pub sizes : IsGeometry files.geometry
   pub entries : AreEntries files.table
   pub from : files.map.from ≡ area_from files.geometry
   pub count : length files.map.owners ≡ files.geometry.blocks
-  pub may : (k : ℕ) (owner : Owner) → slice_get files.map.owners k ≡ Some (Some owner) → MayOwn (lengths_of files.table) files.geometry.blocks k owner
+  pub may : (k : ℕ) (owner : Owner) → slice_get files.map.owners k ≡ Some (Some owner)
+      → MayOwn (lengths_of files.table) files.geometry.blocks k owner
   pub once : AreApartOwners files.map.owners
 
 -- files and a journal of one image

@@ -1,5 +1,6 @@
 -- What a loading finds.
-use Rattle.std.specs.Prelude.{◌≡◌, ℕ, zero, suc, ◌*◌, ◌<◌, true, List, [], ◌∷◌, length, drop, take, Option, None, Some, Result, IsErrOf, MatchOption, OnOk, slice_get}
+use Rattle.std.specs.Prelude.{◌≡◌, ℕ, zero, suc, ◌*◌, ◌<◌, true, List, [], ◌∷◌, length, drop, take}
+use Rattle.std.specs.Prelude.{Option, None, Some, Result, IsErrOf, MatchOption, OnOk, slice_get}
 use Rattle.nesc_base.specs.declared.block.Block.{Block}
 use Rattle.nesc_base.specs.declared.geometry.Geometry.{Geometry}
 use Rattle.nesc_base.specs.Disk.{Known}
@@ -25,13 +26,15 @@ pub record Loads (journal : Journal) (disk : Known) (new : Layer) (result : Resu
   pub loaded : disk.tells ≡ true → (kept : List Block) → IsKept journal.geometry disk kept
       → OnOk result (HasParts new.geometry (now_of journal.staged kept) new.table (owners_of new))
   pub refused : disk.tells ≡ true → (kept : List Block) → IsKept journal.geometry disk kept
-      → (fault : ImageFault) → IsErrOf result (Image fault) → HasNoFiles journal.geometry (now_of journal.staged kept) fault
+      → (fault : ImageFault) → IsErrOf result (Image fault)
+      → HasNoFiles journal.geometry (now_of journal.staged kept) fault
 
 -- The parts of a loading
 
 -- over a disk that tells, whatever blocks it has kept, P holds of the journal's
 abbrev pub OfBlocks : Journal → Known → (List Block → Type 0) → Type 0
-OfBlocks journal disk P = disk.tells ≡ true → (kept : List Block) → IsKept journal.geometry disk kept → P (now_of journal.staged kept)
+OfBlocks journal disk P = disk.tells ≡ true → (kept : List Block) → IsKept journal.geometry disk kept
+    → P (now_of journal.staged kept)
 
 -- this block of them stands at a place
 abbrev pub IsBlockNow : Journal → Known → ℕ → Block → Type 0
@@ -50,7 +53,8 @@ padded (suc n) (owner ∷ owners) = owner ∷ padded n owners
 
 -- each of these owners may own, as the files of these entries are
 abbrev pub MayOwnEach : List (Option TableEntry) → ℕ → List (Option Owner) → Type 0
-MayOwnEach entries count owners = (k : ℕ) (owner : Owner) → slice_get owners k ≡ Some (Some owner) → MayOwn (lengths_of entries) count k owner
+MayOwnEach entries count owners = (k : ℕ) (owner : Owner) → slice_get owners k ≡ Some (Some owner)
+    → MayOwn (lengths_of entries) count k owner
 
 -- its data blocks have these owners, from the first on, each of them once
 pub record HasOwners (geometry : Geometry) (map : BlockMap) (owners : List (Option Owner)) : Type 0 where
@@ -64,15 +68,19 @@ owners_before b map = take (block_owners * b) map.owners
 
 -- the first owner that an earlier data block has
 abbrev pub IsFirstTwice : List (Option Owner) → Owner → Type 0
-IsFirstTwice owners owner = (k : ℕ) × Repeats owners k owner × ((j : ℕ) (earlier : Owner) → j < k → ¬ Repeats owners j earlier)
+IsFirstTwice owners owner =
+    (k : ℕ) × Repeats owners k owner × ((j : ℕ) (earlier : Owner) → j < k → ¬ Repeats owners j earlier)
 
--- The first so many map blocks are good for the files of these entries, and the map has their owners, or one of them stands
--- twice.
-pub record MapLoads (geometry : Geometry) (journal : Journal) (disk : Known) (entries : List (Option TableEntry)) (b : ℕ) (map : BlockMap) (twice : Option Owner) : Type 0 where
+-- The first so many map blocks are good for the files of these entries, and the map has their owners, or one of them
+-- stands twice.
+pub record MapLoads (geometry : Geometry) (journal : Journal) (disk : Known) (entries : List (Option TableEntry))
+    (b : ℕ) (map : BlockMap) (twice : Option Owner) : Type 0 where
   pub owners : List (Option Owner)
   pub count : length owners ≡ block_owners * b
-  pub may : (c : ℕ) → c < b → MayOwnEach entries (entries_in geometry c) (take block_owners (drop (block_owners * c) owners))
-  pub each : OfBlocks journal disk (λ blocks. (c : ℕ) → c < b → IsMapBlock geometry blocks entries c (take block_owners (drop (block_owners * c) owners)))
+  pub may : (c : ℕ) → c < b
+      → MayOwnEach entries (entries_in geometry c) (take block_owners (drop (block_owners * c) owners))
+  pub each : OfBlocks journal disk (λ blocks. (c : ℕ) → c < b
+      → IsMapBlock geometry blocks entries c (take block_owners (drop (block_owners * c) owners)))
   pub set : MatchOption twice (HasOwners geometry map owners) (IsFirstTwice owners)
 
 -- a map block is bad for the files of these entries, or the disk failed
@@ -80,4 +88,5 @@ abbrev pub LacksMap : Geometry → Journal → Known → List (Option TableEntry
 LacksMap geometry journal disk entries NoMemory = ⊥
 LacksMap geometry journal disk entries (Disk fault) = Unit {0}
 LacksMap geometry journal disk entries (Image fault) =
-    OfBlocks journal disk (λ blocks. IsTable (block_at blocks (table_at geometry)) entries → HasNoFiles geometry blocks fault)
+    OfBlocks journal disk (λ blocks. IsTable (block_at blocks (table_at geometry)) entries
+    → HasNoFiles geometry blocks fault)

@@ -20,40 +20,47 @@ pub record Shows (files : Layer) (staged : Staged) (kept : List Block) (set : Fi
   pub whole : total files.geometry ≤ length kept
   pub parts : HasParts files.geometry (now_of staged kept) files.table (owners_of files)
   pub knows : Knows files set places
-  pub stands : (n v at : ℕ) (file : File) → get set n ≡ Some file → Owns places n v at → get file.body v ≡ slice_get (now_of staged kept) at
+  pub stands : (n v at : ℕ) (file : File) → get set n ≡ Some file → Owns places n v at
+      → get file.body v ≡ slice_get (now_of staged kept) at
 
--- Files, a journal and a disk belong together: the journal belongs to the disk, and what the disk has kept shows the files,
--- where it tells.
+-- Files, a journal and a disk belong together: the journal belongs to the disk, and what the disk has kept shows the
+-- files, where it tells.
 pub record RestsOn (files : Layer) (journal : Journal) (disk : Known) : Type 0 where
   pub fits : Fits files journal
   pub rests : Rests journal disk
-  pub parts : disk.tells ≡ true → (kept : List Block) → IsKept journal.geometry disk kept → HasParts files.geometry (now_of journal.staged kept) files.table (owners_of files)
+  pub parts : disk.tells ≡ true → (kept : List Block) → IsKept journal.geometry disk kept
+      → HasParts files.geometry (now_of journal.staged kept) files.table (owners_of files)
 
 -- what shows the files in memory has them, as an opening judges it
 abbrev pub ShowsFiles : Layer → Staged → List Block → Files → Places → Type 0
-ShowsFiles files staged kept set places = IsLayer files → Shows files staged kept set places → HasFiles files.geometry (now_of staged kept) set places
+ShowsFiles files staged kept set places = IsLayer files → Shows files staged kept set places
+    → HasFiles files.geometry (now_of staged kept) set places
 
 -- and opens as them, where what is kept is an image in which every gate is closed
 abbrev pub ShowsOpens : Layer → Journal → List Block → Files → Places → Type 0
 ShowsOpens files journal kept set places =
-    Fits files journal → IsDivided kept files.geometry → AreClosed files.geometry kept → Shows files journal.staged kept set places
+    Fits files journal → IsDivided kept files.geometry → AreClosed files.geometry kept
+    → Shows files journal.staged kept set places
     → Opens (now_of journal.staged kept) files.geometry set places
 
 -- and what an opening finds there is what the files in memory are
 abbrev pub FoundIsShown : Layer → Staged → List Block → Files → Places → Type 0
 FoundIsShown files staged kept set places =
     IsLayer files → total files.geometry ≤ length kept
-    → HasParts files.geometry (now_of staged kept) files.table (owners_of files) → HasFiles files.geometry (now_of staged kept) set places → Shows files staged kept set places
+    → HasParts files.geometry (now_of staged kept) files.table (owners_of files)
+    → HasFiles files.geometry (now_of staged kept) set places → Shows files staged kept set places
 
 -- a disk that has all blocks of an image has kept all of them
 abbrev pub KeepsWhole : Geometry → Known → List Block → Type 0
-KeepsWhole geometry disk kept = total geometry ≤ disk.size → length disk.contents ≡ disk.size → IsKept geometry disk kept → total geometry ≤ length kept
+KeepsWhole geometry disk kept = total geometry ≤ disk.size → length disk.contents ≡ disk.size
+    → IsKept geometry disk kept → total geometry ≤ length kept
 
 -- there are such files, wherever the parts are good
 abbrev pub ShowsSome : Layer → Staged → List Block → Type 0
 ShowsSome files staged kept =
     IsLayer files → total files.geometry ≤ length kept
-    → HasParts files.geometry (now_of staged kept) files.table (owners_of files) → (set : Files) × (places : Places) × Shows files staged kept set places
+    → HasParts files.geometry (now_of staged kept) files.table (owners_of files)
+    → (set : Files) × (places : Places) × Shows files staged kept set places
 
 -- the files change with the journal so that they are shown still, as some files
 abbrev pub StayShown : Layer → Journal → Layer → Journal → Type 0

@@ -1,5 +1,6 @@
 -- How a change is staged, piece by piece.
-use Rattle.std.specs.Prelude.{◌≡◌, ℕ, ◌+◌, ◌-◌, ◌*◌, ◌/◌, ◌<◌, ◌≤◌, Bool, true, List, length, drop, take, Some, slice_get, slice_set}
+use Rattle.std.specs.Prelude.{◌≡◌, ℕ, ◌+◌, ◌-◌, ◌*◌, ◌/◌, ◌<◌, ◌≤◌, Bool, true}
+use Rattle.std.specs.Prelude.{List, length, drop, take, Some, slice_get, slice_set}
 use Rattle.std.specs.FinMap.{get}
 use Rattle.nesc_base.specs.declared.block.Block.{Block}
 use Rattle.nesc_base.specs.declared.geometry.Geometry.{Geometry}
@@ -29,8 +30,11 @@ map_block files b = owner_block (take block_owners (drop (block_owners * b) (own
 -- each map block that is marked is staged, and nothing else
 pub record StagesMap (files : Layer) (marks : List Bool) (old new : Journal) : Type 0 where
   pub counted : new.count ≡ old.count
-  pub marked : (b : ℕ) → b < map_blocks files.geometry → IsMarked marks b → get new.staged (map_at files.geometry + b) ≡ Some (map_block files b)
-  pub others : (at : ℕ) → ((b : ℕ) → b < map_blocks files.geometry → IsMarked marks b → ¬ (at ≡ map_at files.geometry + b)) → get new.staged at ≡ get old.staged at
+  pub marked : (b : ℕ) → b < map_blocks files.geometry → IsMarked marks b
+      → get new.staged (map_at files.geometry + b) ≡ Some (map_block files b)
+  pub others :
+      (at : ℕ) → ((b : ℕ) → b < map_blocks files.geometry → IsMarked marks b → ¬ (at ≡ map_at files.geometry + b)) →
+      get new.staged at ≡ get old.staged at
 
 -- What is left out of a file while it changes: its blocks from one on up to another do not show what they hold yet.
 pub record Left : Type 0 where
@@ -41,11 +45,14 @@ pub record Left : Type 0 where
 abbrev pub IsLeft : Left → ℕ → ℕ → Type 0
 IsLeft left n v = (n ≡ left.file) × (left.from ≤ v) × (v < left.to)
 
--- In the middle of a change: the blocks show the files in memory, but for the map blocks that are marked, and for what the
--- blocks hold that are left.
-pub record ShowsBut (marks : List Bool) (left : Left) (files : Layer) (staged : Staged) (kept : List Block) (set : Files) (places : Places) : Type 0 where
+-- In the middle of a change: the blocks show the files in memory, but for the map blocks that are marked, and for what
+-- the blocks hold that are left.
+pub record ShowsBut (marks : List Bool) (left : Left) (files : Layer) (staged : Staged) (kept : List Block)
+    (set : Files) (places : Places) : Type 0 where
   pub whole : total files.geometry ≤ length kept
   pub table : IsTable (block_at (now_of staged kept) (table_at files.geometry)) files.table
-  pub owned : (b : ℕ) → b < map_blocks files.geometry → ¬ IsMarked marks b → block_at (now_of staged kept) (map_at files.geometry + b) ≡ map_block files b
+  pub owned : (b : ℕ) → b < map_blocks files.geometry → ¬ IsMarked marks b
+      → block_at (now_of staged kept) (map_at files.geometry + b) ≡ map_block files b
   pub knows : Knows files set places
-  pub stands : (n v at : ℕ) (file : File) → ¬ IsLeft left n v → get set n ≡ Some file → Owns places n v at → get file.body v ≡ slice_get (now_of staged kept) at
+  pub stands : (n v at : ℕ) (file : File) → ¬ IsLeft left n v → get set n ≡ Some file → Owns places n v at
+      → get file.body v ≡ slice_get (now_of staged kept) at

@@ -1,4 +1,5 @@
-ghost use Rattle.std.specs.Prelude.{◌≡◌, ◌⊎◌, ◌+◌, ◌≤◌, ℕ, IfOk, IfSome, List, MatchOption, OnErr, OnOk, IsErr, IsErrOf, length, option_map, true};
+ghost use Rattle.std.specs.Prelude.{◌≡◌, ◌⊎◌, ◌+◌, ◌≤◌, ℕ, IfOk, IfSome, List, MatchOption};
+ghost use Rattle.std.specs.Prelude.{OnErr, OnOk, IsErr, IsErrOf, length, option_map, true};
 ghost use Rattle.std.specs.FinMap.{get, len};
 ghost use Rattle.nesc_base.specs.declared.block.Block.{Block};
 ghost use Rattle.nesc_base.specs.Disk.{Goes, Unchanged};
@@ -20,13 +21,13 @@ use crate::{FileFault, Files};
 use block_map::FileRuns;
 use host_journal::Journal;
 use image_layout::TableEntry;
-use nesc_base::{Block, Blocks, Disk, DiskFault, FileNo, Geometry, Name};
+use nesc_base::{Block, Blocks, Disk, DiskFault, FileNo, Geometry, MOST_FILES, Name};
 
 impl Files {
     /// Reads blocks of a file from `v` on, as many as the buffer has. A block that is not held reads as zeros.
     ///
-    /// `NoFile` says that there is no file of the number, else `Range` that not all lie below its length, else `Media` that
-    /// the disk failed; then the buffer may hold anything.
+    /// `NoFile` says that there is no file of the number, else `Range` that not all lie below its length, else `Media`
+    /// that the disk failed; then the buffer may hold anything.
     pub fn get<D: Disk>(
         &self,
         journal: &Journal,
@@ -38,8 +39,10 @@ impl Files {
         requires rests { RestsOn self.now journal.now (D.known disk.old) }
         requires begins { v ≤ longest_file }
         ensures answers { OfFiles self.now (λ set _. GetAnswers set file.0 v (length into.old) result) }
-        ensures blocks { (D.known disk.old).tells ≡ true → (kept : List Block) (set : FileSet) (places : Places) → IsKept journal.now.geometry (D.known disk.old) kept
-            → Shows self.now journal.now.staged kept set places → OnOk result (into.new ≡ read_from (file_at set file.0) v (length into.old)) }
+        ensures blocks { (D.known disk.old).tells ≡ true → (kept : List Block) (set : FileSet) (places : Places) →
+            IsKept journal.now.geometry (D.known disk.old) kept
+            → Shows self.now journal.now.staged kept set places
+            → OnOk result (into.new ≡ read_from (file_at set file.0) v (length into.old)) }
         ensures refused { IsErrOf result NoFile ⊎ IsErrOf result Range → into.new ≡ into.old }
         ensures whole { length into.new ≡ length into.old }
         ensures cause { HasCause (D.known disk.old).faults (D.known disk.new).faults (IsErrOf result Media) }
@@ -69,8 +72,10 @@ impl Files {
         v: u32,
     ) -> Result<Block, DiskFault>
         requires rests { RestsOn self.now journal.now (D.known disk.old) }
-        ensures block { (D.known disk.old).tells ≡ true → (kept : List Block) (set : FileSet) (places : Places) → IsKept journal.now.geometry (D.known disk.old) kept
-            → Shows self.now journal.now.staged kept set places → IfOk result (λ block. block ≡ read (file_at set file.0) v) }
+        ensures block { (D.known disk.old).tells ≡ true → (kept : List Block) (set : FileSet) (places : Places) →
+            IsKept journal.now.geometry (D.known disk.old) kept
+            → Shows self.now journal.now.staged kept set places
+            → IfOk result (λ block. block ≡ read (file_at set file.0) v) }
         ensures cause { HasCause (D.known disk.old).faults (D.known disk.new).faults (IsErr result) }
         ensures unchanged { Unchanged (D.known disk.old) (D.known disk.new) }
         ensures goes { Goes (D.known disk.old) (D.known disk.new) }
@@ -85,11 +90,12 @@ impl Files {
 
     /// The file of a name, or `None` where there is none.
     pub fn find(&self, name: &Name) -> Option<FileNo>
-        ensures found { OfFiles self.now (λ set _. MatchOption result (IsUnnamed set name.now) (λ n. (file : File) × HasName set name.now n.0 file)) }
+        ensures found { OfFiles self.now (λ set _. MatchOption result (IsUnnamed set name.now)
+            (λ n. (file : File) × HasName set name.now n.0 file)) }
         ensures used { IfSome result (λ n. IsUsed self.now n.0) }
     {
         let entries = self.table.entries();
-        for e in 0..32 {
+        for e in 0..usize::from(MOST_FILES) {
             if let Some(entry) = &entries[e] {
                 if entry.name.bytes() == name.bytes() {
                     return Some(FileNo(e as u16 + 1));
@@ -103,7 +109,8 @@ impl Files {
     pub fn length(&self, file: FileNo) -> Option<u32>
         ensures entry { result ≡ option_map (λ entry. entry.length) (entry_of self.now file.0) }
         ensures short { IsLayer self.now → IfSome result (λ length. length ≤ longest_file) }
-        ensures answers { OfFiles self.now (λ set _. result ≡ option_map (λ (held : File). held.length) (get set file.0)) }
+        ensures answers { OfFiles self.now (λ set _.
+            result ≡ option_map (λ (held : File). held.length) (get set file.0)) }
     {
         Some(self.entry(file)?.length)
     }
@@ -111,7 +118,8 @@ impl Files {
     /// The name of a file, or `None` where there is no file of the number.
     pub fn name(&self, file: FileNo) -> Option<Name>
         ensures entry { result ≡ option_map (λ entry. entry.name) (entry_of self.now file.0) }
-        ensures answers { OfFiles self.now (λ set _. result ≡ option_map (λ (held : File). held.name) (get set file.0)) }
+        ensures answers { OfFiles self.now (λ set _.
+            result ≡ option_map (λ (held : File). held.name) (get set file.0)) }
     {
         Some(self.entry(file)?.name)
     }

@@ -50,8 +50,8 @@ pub struct Files {
 }
 
 impl Files {
-    /// No files, with the memory for those of an image of this division. An `Err` says that there is none. No other call
-    /// takes any.
+    /// No files, with the memory for those of an image of this division. An `Err` says that there is none. No other
+    /// call takes any.
     pub fn new(alloc: Global, geometry: Geometry) -> Result<Files, NoMemory>
         requires { IsGeometry geometry }
         ensures empty { IfOk result (λ files. files ≡ no_files geometry) }

@@ -1,4 +1,5 @@
-ghost use Rattle.std.specs.Prelude.{◌≡◌, ◌≢◌, ◌<◌, ◌++◌, Err, IfErr, IfOk, IsErrOf, MatchOption, MatchResult, OnErr, OnOk, length};
+ghost use Rattle.std.specs.Prelude.{◌≡◌, ◌≢◌, ◌<◌, ◌++◌, Err, IfErr, IfOk, IsErrOf};
+ghost use Rattle.std.specs.Prelude.{MatchOption, MatchResult, OnErr, OnOk, length};
 ghost use Rattle.nesc_base.specs.Disk.{Goes, Unchanged};
 ghost use Rattle.nesc_base.specs.Fault.{HasCause};
 ghost use Rattle.nesc_base.specs.Geometry.{IsGeometry, block_owners, map_blocks};
@@ -8,7 +9,8 @@ ghost use Rattle.image_layout.specs.declared.fault.OpenFault.TheVariants.{Disk, 
 ghost use Rattle.image_layout.specs.Opens.{entries_in};
 ghost use Rattle.image_layout.specs.Table.{AreEntries};
 ghost use Rattle.file_layer.specs.Layer.{Fits, IsLayer, no_files};
-ghost use Rattle.file_layer.specs.Loading.{HasOwners, IsBlockNow, IsFirstTwice, IsMapOf, LacksMap, Loads, MapLoads, MayOwnEach, owners_before};
+ghost use Rattle.file_layer.specs.Loading.{HasOwners, IsBlockNow, IsFirstTwice, IsMapOf};
+ghost use Rattle.file_layer.specs.Loading.{LacksMap, Loads, MapLoads, MayOwnEach, owners_before};
 ghost use Rattle.file_layer.specs.Showing.{RestsOn};
 
 use crate::Files;
@@ -17,11 +19,12 @@ use image_layout::{ImageFault, OpenFault, Owners, Table, lengths_of, owners_of, 
 use nesc_base::{Block, Disk, FileNo, Geometry};
 
 impl Files {
-    /// Loads the files that the journal's blocks have: it reads the table and the map, each block once, and no data block.
+    /// Loads the files that the journal's blocks have: it reads the table and the map, each block once, and no data
+    /// block.
     ///
     /// `Image` names the first cause for which they have none: the table is bad, a map block is, or a data block has an
-    /// owner that an earlier one has. `Disk` comes only where the disk failed; `NoMemory` never does. After an `Err` none
-    /// are in memory; the image is as it was.
+    /// owner that an earlier one has. `Disk` comes only where the disk failed; `NoMemory` never does. After an `Err`
+    /// none are in memory; the image is as it was.
     pub fn load<D: Disk>(&mut self, journal: &Journal, disk: &mut D) -> Result<(), OpenFault>
         requires layer { IsLayer self.old }
         requires same { journal.now.geometry ≡ self.old.geometry }
@@ -70,8 +73,8 @@ impl Files {
         }
     }
 
-    // Loads the map for the files of the table, and answers the first owner that stands twice, if one does. Then the map lacks
-    // that owner and those behind it.
+    // Loads the map for the files of the table, and answers the first owner that stands twice, if one does. Then the
+    // map lacks that owner and those behind it.
     fn load_map<D: Disk>(
         &mut self,
         journal: &Journal,
@@ -82,7 +85,8 @@ impl Files {
         requires map { IsMapOf self.old.geometry self.old.map }
         requires same { journal.now.geometry ≡ self.old.geometry }
         requires rests { Rests journal.now (D.known disk.old) }
-        ensures loads { IfOk result (MapLoads self.old.geometry journal.now (D.known disk.old) self.old.table (map_blocks self.old.geometry) self.new.map) }
+        ensures loads { IfOk result (MapLoads self.old.geometry journal.now (D.known disk.old) self.old.table
+            (map_blocks self.old.geometry) self.new.map) }
         ensures refused { IfErr result (LacksMap self.old.geometry journal.now (D.known disk.old) self.old.table) }
         ensures same_geometry { self.new.geometry ≡ self.old.geometry }
         ensures table { self.new.table ≡ self.old.table }
@@ -103,7 +107,8 @@ impl Files {
             let read = read_block(journal, disk, block)?;
             let entries = geometry.blocks - Geometry::BLOCK_OWNERS * b;
             let owners = owners_of(&read, &lengths, entries).ok_or(ImageFault::BadOwner { block })?;
-            // The blocks behind are judged all the same: a map block that is bad comes before an owner that stands twice.
+            // The blocks behind are judged all the same: a map block that is bad comes before an owner that stands
+            // twice.
             if twice.is_none() {
                 twice = self.set_owners(b, &owners);
             }
@@ -119,7 +124,9 @@ impl Files {
         requires count { length owners.now ≡ block_owners }
         requires may { MayOwnEach self.old.table (entries_in self.old.geometry b) owners.now }
         requires before { HasOwners self.old.geometry self.old.map (owners_before b self.old.map) }
-        ensures set { MatchOption result (HasOwners self.old.geometry self.new.map (owners_before b self.old.map ++ owners.now)) (IsFirstTwice (owners_before b self.old.map ++ owners.now)) }
+        ensures set { MatchOption result
+            (HasOwners self.old.geometry self.new.map (owners_before b self.old.map ++ owners.now))
+            (IsFirstTwice (owners_before b self.old.map ++ owners.now)) }
         ensures same_geometry { self.new.geometry ≡ self.old.geometry }
         ensures table { self.new.table ≡ self.old.table }
         ensures map { IsMapOf self.old.geometry self.new.map }

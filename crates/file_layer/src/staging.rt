@@ -1,5 +1,6 @@
-ghost use Rattle.std.specs.Prelude.{◌≡◌, ◌+◌, ◌-◌, ◌*◌, ◌<◌, ◌≤◌, ℕ, MatchOption, Some, None, drop, length, slice_get, slice_set, false, replicate, take};
-ghost use Rattle.nesc_base.specs.Geometry.{block_owners, map_blocks, table_at};
+ghost use Rattle.std.specs.Prelude.{◌≡◌, ◌+◌, ◌-◌, ◌*◌, ◌<◌, ◌≤◌, ℕ, MatchOption, Some, None};
+ghost use Rattle.std.specs.Prelude.{drop, length, slice_get, slice_set, false, replicate, take};
+ghost use Rattle.nesc_base.specs.Geometry.{block_owners, map_blocks, most_map_blocks, table_at};
 ghost use Rattle.block_map.specs.Map.{IsFull, IsLowestFree, IsPlace, IsUnheld, StandsAt, with_owner};
 ghost use Rattle.image_layout.specs.Owners.{owner_block};
 ghost use Rattle.image_layout.specs.Table.{table_block};
@@ -15,7 +16,7 @@ use image_layout::{Owners, owner_block, table_block};
 use nesc_base::{Block, FileNo, Geometry};
 
 // How many map blocks there are at most.
-const MOST_MAP_BLOCKS: usize = 512;
+const MOST_MAP_BLOCKS: usize = Geometry::MOST_MAP_BLOCKS as usize;
 
 /// The map blocks whose owners have changed, so that each is staged once, whatever changes in it.
 #[derive(Drop)]
@@ -26,7 +27,7 @@ pub(crate) struct Touched {
 impl Touched {
     /// None of them.
     pub fn none() -> Touched
-        ensures { result.marks ≡ replicate 512 false }
+        ensures { result.marks ≡ replicate most_map_blocks false }
     {
         Touched {
             marks: [false; MOST_MAP_BLOCKS],
@@ -46,7 +47,7 @@ impl Files {
     // Stages the map blocks that are marked.
     pub(crate) fn stage_map(&self, journal: &mut Journal, touched: &Touched)
         requires fits { Fits self.now journal.old }
-        requires marks { length touched.now.marks ≡ 512 }
+        requires marks { length touched.now.marks ≡ most_map_blocks }
         ensures stages { StagesMap self.now touched.now.marks journal.old journal.new }
         ensures goes { GoesOn journal.old journal.new }
     {
@@ -73,15 +74,19 @@ impl Files {
         owner_block(&owners)
     }
 
-    // Gives the lowest free data block to a block that is not held, and marks its map block. `None` says that none is free.
+    // Gives the lowest free data block to a block that is not held, and marks its map block. `None` says that none is
+    // free.
     pub(crate) fn give(&mut self, file: FileNo, v: u32, touched: &mut Touched) -> Option<u32>
         requires layer { IsLayer self.old }
         requires below { (entry : _) → entry_of self.old file.0 ≡ Some entry → v < entry.length }
         requires used { IsUsed self.old file.0 }
         requires unheld { IsUnheld self.old.map file.0 v }
-        requires marks { length touched.old.marks ≡ 512 }
-        ensures given { MatchOption result (IsFull self.old.map × (self.new ≡ self.old)) (λ at. IsLowestFree self.old.map at × (self.new ≡ record self.old { map = with_owner self.old.map at (Some (file, v)) })) }
-        ensures marked { MatchOption result (touched.new ≡ touched.old) (λ at. touched.new.marks ≡ marking self.old.geometry touched.old.marks at) }
+        requires marks { length touched.old.marks ≡ most_map_blocks }
+        ensures given { MatchOption result (IsFull self.old.map × (self.new ≡ self.old))
+            (λ at. IsLowestFree self.old.map at
+            × (self.new ≡ record self.old { map = with_owner self.old.map at (Some (file, v)) })) }
+        ensures marked { MatchOption result (touched.new ≡ touched.old)
+            (λ at. touched.new.marks ≡ marking self.old.geometry touched.old.marks at) }
         ensures layer { IsLayer self.new }
     {
         let at = self.map.give(file, v)?;
@@ -98,9 +103,10 @@ impl Files {
         touched: &mut Touched,
     )
         requires fits { Fits self.old journal.old }
-        requires marks { length touched.old.marks ≡ 512 }
+        requires marks { length touched.old.marks ≡ most_map_blocks }
         requires stands { (at : ℕ) × StandsAt self.old.map file.0 v at }
-        ensures taken { TakesBack file.0 v self.old journal.old touched.old.marks self.new journal.new touched.new.marks }
+        ensures taken { TakesBack file.0 v self.old journal.old touched.old.marks self.new
+            journal.new touched.new.marks }
         ensures fits { Fits self.new journal.new }
     {
         if let Some(at) = self.map.take_back(file, v) {
@@ -113,7 +119,7 @@ impl Files {
     fn mark(&self, at: u32, touched: &mut Touched)
         requires layer { IsLayer self.now }
         requires place { IsPlace self.now.map at }
-        requires marks { length touched.old.marks ≡ 512 }
+        requires marks { length touched.old.marks ≡ most_map_blocks }
         ensures { touched.new.marks ≡ marking self.now.geometry touched.old.marks at }
     {
         let b = (at - self.geometry.area_from()) / Geometry::BLOCK_OWNERS;

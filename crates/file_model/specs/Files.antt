@@ -1,5 +1,6 @@
 -- Files: what is read from them, and how they change.
-use Rattle.std.specs.Prelude.{◌≡◌, ◌≢◌, ℕ, ◌+◌, ◌-◌, ◌<◌, ◌≤◌, ◌==◌, ◌&&◌, ◌||◌, nat_eq, nat_lt, not, Bool, false, List, [], ◌∷◌, length, Some, None, IsSome, IsTrue, unwrap_or, filter, map}
+use Rattle.std.specs.Prelude.{◌≡◌, ◌≢◌, ℕ, ◌+◌, ◌-◌, ◌<◌, ◌≤◌, ◌==◌, ◌&&◌, ◌||◌, nat_eq, nat_lt, not, Bool}
+use Rattle.std.specs.Prelude.{false, List, [], ◌∷◌, length, Some, None, IsSome, IsTrue, unwrap_or, filter, map}
 use Rattle.std.specs.List.{range_with_len, sum_by, AllByRecursion, IsDistinct}
 use Rattle.std.specs.FinMap.{empty, get, insert, remove, retain_keys, contains_key, len, values}
 use Rattle.nesc_base.specs.declared.block.Block.{Block}
@@ -105,8 +106,8 @@ abbrev pub with_zeros : Body → List ℕ → Body
 with_zeros body [] = body
 with_zeros body (v ∷ blocks) = with_zeros (insert body v zero_block) blocks
 
--- Each of these blocks, none twice, lies below the length and was not held, and is a block of zeros now. That so many data
--- blocks were free is said by whoever holds them.
+-- Each of these blocks, none twice, lies below the length and was not held, and is a block of zeros now. That so many
+-- data blocks were free is said by whoever holds them.
 pub record Holds (old : Files) (n : ℕ) (blocks : List ℕ) (new : Files) : Type 0 where
   pub file : File
   pub stands : get old n ≡ Some file

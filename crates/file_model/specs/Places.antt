@@ -34,10 +34,11 @@ pub record IsLowestFree (area : Area) (places : Places) (at : ℕ) : Type 0 wher
 -- each of these blocks of the file in turn gets the lowest that is free
 abbrev pub Gives : Area → Places → ℕ → List ℕ → Places → Type 0
 Gives area old n [] new = new ≡ old
-Gives area old n (v ∷ blocks) new = (at : ℕ) × IsLowestFree area old at × Gives area (with_place old n v at) n blocks new
+Gives area old n (v ∷ blocks) new =
+    (at : ℕ) × IsLowestFree area old at × Gives area (with_place old n v at) n blocks new
 
--- a change of the files leads from the old places to the new ones: a block that comes to be held gets the lowest that is free,
--- and one that is put stays where it is
+-- a change of the files leads from the old places to the new ones: a block that comes to be held gets the lowest that
+-- is free, and one that is put stays where it is
 abbrev pub Moves : Area → Places → Change → Places → Type 0
 Moves area old (create n name length) new = new ≡ with_file old n
 Moves area old (delete n) new = new ≡ without_file old n

@@ -20,7 +20,8 @@ pub record Journal : Type 0 where
 -- it is stored as its fields
 abbrev pub journal_code : Coded Journal
 journal_code =
-    code_by (Geometry × (Staged × (ℕ × Bool))) (coded× coded_geometry (coded× (finmap.code coded_ℕ coded_block) (coded× coded_ℕ coded_bool)))
+    code_by (Geometry × (Staged × (ℕ × Bool)))
+    (coded× coded_geometry (coded× (finmap.code coded_ℕ coded_block) (coded× coded_ℕ coded_bool)))
     (λ j. (j.geometry, (j.staged, (j.count, j.started))))
     (λ p. record { geometry = p.0; staged = p.1.0; count = p.1.1.0; started = p.1.1.1 })
     (λ _. refl)

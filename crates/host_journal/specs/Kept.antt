@@ -14,8 +14,8 @@ pub record IsKept (geometry : Geometry) (disk : Known) (kept : List Block) : Typ
   pub stands : StandsFor geometry disk.contents kept
   pub settled : IsSettled disk
 
--- A started journal and a disk belong together: the disk has all blocks of the journal's image, and where it tells, it has
--- kept some, with every gate closed on the disk too.
+-- A started journal and a disk belong together: the disk has all blocks of the journal's image, and where it tells, it
+-- has kept some, with every gate closed on the disk too.
 pub record Rests (journal : Journal) (disk : Known) : Type 0 where
   pub started : journal.started ≡ true
   pub sound : IsJournal journal

@@ -38,20 +38,28 @@ IsWrittenByReplay geometry image at = IsOpenGate geometry image at ⊎ IsTarget 
 
 -- the gates that were open are zeros
 abbrev pub AreZeroed : Geometry → List Block → List Block → Type 0
-AreZeroed geometry before image = (k : ℕ) → 1 ≤ k → k ≤ 4 → is_open (gate geometry before k) ≡ true → gate geometry image k ≡ zero_block
+AreZeroed geometry before image = (k : ℕ) → 1 ≤ k → k ≤ 4 → is_open (gate geometry before k) ≡ true
+    → gate geometry image k ≡ zero_block
 
--- From old to new, with nothing unsynced at first, the slots that are to be replayed were, up to the first call that failed:
--- every image on the way stands for what the contents stood for, and once all of it is done the disk has kept that.
+-- From old to new, with nothing unsynced at first, the slots that are to be replayed were, up to the first call that
+-- failed: every image on the way stands for what the contents stood for, and once all of it is done the disk has kept
+-- that.
 pub record Replays (geometry : Geometry) (old new : Known) (result : Result (Unit {0}) StartFault) : Type 0 where
   pub goes : Goes old new
-  pub stands : old.tells ≡ true → OnOk result ((kept : List Block) × AreClosed geometry kept × StandsFor geometry old.contents kept)
-  pub kept : old.tells ≡ true → IsSettled old → (kept : List Block) → AreClosed geometry kept → StandsFor geometry old.contents kept → OnOk result (IsKept geometry new kept)
+  pub stands : old.tells ≡ true
+      → OnOk result ((kept : List Block) × AreClosed geometry kept × StandsFor geometry old.contents kept)
+  pub kept : old.tells ≡ true → IsSettled old → (kept : List Block) → AreClosed geometry kept
+      → StandsFor geometry old.contents kept → OnOk result (IsKept geometry new kept)
   pub closed : old.tells ≡ true → OnOk result (AreClosed geometry new.contents)
   pub zeroed : old.tells ≡ true → OnOk result (AreZeroed geometry old.contents new.contents)
-  pub leaves : old.tells ≡ true → IsSettled old → (kept : List Block) → StandsFor geometry old.contents kept → Leaves (λ image. StandsFor geometry image kept) old new
-  pub bad_list : old.tells ≡ true → (block : ℕ) → LacksList geometry old.contents block → IsErrOf result (fault.BadList block) ⊎ IsErrOf result (fault.Disk _)
-  pub no_other : old.tells ≡ true → (block : ℕ) → IsErrOf result (fault.BadList block) → LacksList geometry old.contents block
+  pub leaves : old.tells ≡ true → IsSettled old → (kept : List Block) → StandsFor geometry old.contents kept
+      → Leaves (λ image. StandsFor geometry image kept) old new
+  pub bad_list : old.tells ≡ true → (block : ℕ) → LacksList geometry old.contents block
+      → IsErrOf result (fault.BadList block) ⊎ IsErrOf result (fault.Disk _)
+  pub no_other : old.tells ≡ true → (block : ℕ) → IsErrOf result (fault.BadList block)
+      → LacksList geometry old.contents block
   pub unwritten : (block : ℕ) → IsErrOf result (fault.BadList block) → WritesAt nowhere old new
-  pub unwritten_where_bad : old.tells ≡ true → (block : ℕ) → LacksList geometry old.contents block → WritesAt nowhere old new
+  pub unwritten_where_bad : old.tells ≡ true → (block : ℕ) → LacksList geometry old.contents block
+      → WritesAt nowhere old new
   pub writes : WritesAt (IsWrittenByReplay geometry old.contents) old new
   pub cause : HasCause old.faults new.faults (IsErrOf result (fault.Disk _))

@@ -16,7 +16,8 @@ pub record IsReady (replay : Replay) : Type 0 where
   pub targets : length replay.targets.items ≡ slot_room replay.geometry
   pub sources : length replay.sources.items ≡ total replay.geometry - table_at replay.geometry
 
--- No more data blocks are staged than were counted, and the store has room for these and for the table and the whole map.
+-- No more data blocks are staged than were counted, and the store has room for these and for the table and the whole
+-- map.
 pub record IsSound (geometry : Geometry) (store : Store) (count : ℕ) (replay : Replay) : Type 0 where
   pub same_geometry : replay.geometry ≡ geometry
   pub ready : IsReady replay

@@ -19,7 +19,8 @@ pub record Store : Type 0 where
 
 abbrev pub store_code : Coded Store
 store_code =
-    code_by (Staged × (ℕ × (ℕ × ℕ))) (coded× (finmap.code coded_ℕ coded_block) (coded× coded_ℕ (coded× coded_ℕ coded_ℕ)))
+    code_by (Staged × (ℕ × (ℕ × ℕ)))
+    (coded× (finmap.code coded_ℕ coded_block) (coded× coded_ℕ (coded× coded_ℕ coded_ℕ)))
     (λ s. (s.staged, (s.from, (s.places, s.room))))
     (λ p. record { staged = p.0; from = p.1.0; places = p.1.1.0; room = p.1.1.1 })
     (λ _. refl)
@@ -28,8 +29,8 @@ store_code =
 abbrev pub IsPlaceOf : Store → ℕ → Type 0
 IsPlaceOf store at = (store.from ≤ at) × (at < store.from + store.places)
 
--- The targets are those of all that is staged, in rising order: places that a slot of such an image may have blocks for, each
--- a place of the store.
+-- The targets are those of all that is staged, in rising order: places that a slot of such an image may have blocks
+-- for, each a place of the store.
 pub record AreFor (geometry : Geometry) (store : Store) (targets : List ℕ) : Type 0 where
   pub all : targets ≡ targets_of store.staged
   pub good : AreTargets geometry targets
@@ -39,9 +40,10 @@ pub record AreFor (geometry : Geometry) (store : Store) (targets : List ℕ) : T
 abbrev pub staged_as : List ℕ → List Block → Staged
 staged_as targets blocks = from_entries (zip targets blocks)
 
--- There is a block for each target, the index of each target's place says where the two stand, every other says that there
--- are none, and there is memory for as many as there is room for.
-pub record AreStaged (from : ℕ) (index : List (Option ℕ)) (targets : List ℕ) (blocks : List Block) (room targets_capacity blocks_capacity : ℕ) : Type 0 where
+-- There is a block for each target, the index of each target's place says where the two stand, every other says that
+-- there are none, and there is memory for as many as there is room for.
+pub record AreStaged (from : ℕ) (index : List (Option ℕ)) (targets : List ℕ) (blocks : List Block)
+    (room targets_capacity blocks_capacity : ℕ) : Type 0 where
   pub paired : length blocks ≡ length targets
   pub found : (i at : ℕ) → slice_get targets i ≡ Some at → (from ≤ at) × (slice_get index (at - from) ≡ Some (Some i))
   pub only : (place i : ℕ) → slice_get index place ≡ Some (Some i) → slice_get targets i ≡ Some (from + place)

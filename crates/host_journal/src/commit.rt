@@ -40,7 +40,8 @@ fn write_list<D: Disk>(disk: &mut D, geometry: Geometry, targets: &[u32]) -> Res
     requires sizes { IsGeometry geometry }
     requires enough { total geometry ≤ (D.known disk.old).size }
     requires targets { AreTargets geometry targets.now }
-    ensures writes_out { WritesOut (list_places geometry targets.now) (blocks_of_list targets.now) (D.known disk.old) (D.known disk.new) result }
+    ensures writes_out { WritesOut (list_places geometry targets.now) (blocks_of_list targets.now) (D.known disk.old)
+        (D.known disk.new) result }
     ensures keeps { D.keeps disk.old disk.new }
 {
     let needed = (1 + targets.len()).div_ceil(BLOCK_NUMBERS) as u32;
@@ -63,7 +64,8 @@ fn write_slot<D: Disk>(
     requires sizes { IsGeometry geometry }
     requires enough { total geometry ≤ (D.known disk.old).size }
     requires staged { AreFor geometry staged.now targets.now }
-    ensures writes_out { WritesOut (data_places geometry (length targets.now)) (fresh_of staged.now.staged) (D.known disk.old) (D.known disk.new) result }
+    ensures writes_out { WritesOut (data_places geometry (length targets.now)) (fresh_of staged.now.staged)
+        (D.known disk.old) (D.known disk.new) result }
     ensures keeps { D.keeps disk.old disk.new }
 {
     let from = geometry.slot_at(1) + 1 + geometry.list_blocks();
@@ -85,7 +87,8 @@ fn write_home<D: Disk>(
     requires sizes { IsGeometry geometry }
     requires enough { total geometry ≤ (D.known disk.old).size }
     requires staged { AreFor geometry staged.now targets.now }
-    ensures writes_out { WritesOut targets.now (fresh_of staged.now.staged) (D.known disk.old) (D.known disk.new) result }
+    ensures writes_out { WritesOut targets.now (fresh_of staged.now.staged) (D.known disk.old)
+        (D.known disk.new) result }
     ensures keeps { D.keeps disk.old disk.new }
 {
     for at in targets {

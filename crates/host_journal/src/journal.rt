@@ -1,4 +1,5 @@
-ghost use Rattle.std.specs.Prelude.{◌≡◌, ◌+◌, ◌<◌, ◌≤◌, ℕ, List, IfOk, IfSome, IsErr, IsOk, OnErr, OnOk, Some, false, slice_get, true};
+ghost use Rattle.std.specs.Prelude.{◌≡◌, ◌+◌, ◌<◌, ◌≤◌, ℕ, List, IfOk, IfSome, IsErr};
+ghost use Rattle.std.specs.Prelude.{IsOk, OnErr, OnOk, Some, false, slice_get, true};
 ghost use Rattle.std.specs.FinMap.{empty, get};
 ghost use Rattle.nesc_base.specs.declared.block.Block.{Block};
 ghost use Rattle.nesc_base.specs.Disk.{Goes, Unchanged};
@@ -57,7 +58,8 @@ impl Model for Journal {
 
     ghost coded = { journal_code };
 
-    ghost view = { λ j. record { geometry = j.geometry; staged = j.staged.staged; count = j.count; started = j.started } };
+    ghost view = { λ j.
+        record { geometry = j.geometry; staged = j.staged.staged; count = j.count; started = j.started } };
 
     ghost invariant = { λ j. IsSound j.geometry j.staged j.count j.replay };
 }
@@ -67,7 +69,8 @@ impl Journal {
     /// can be staged at once and for a replay. No other call takes any.
     pub fn new(alloc: Global, geometry: Geometry) -> Result<Journal, NoMemory>
         requires { IsGeometry geometry }
-        ensures { IfOk result (λ journal. journal ≡ record { geometry = geometry; staged = empty; count = 0; started = false }) }
+        ensures { IfOk result (λ journal.
+            journal ≡ record { geometry = geometry; staged = empty; count = 0; started = false }) }
     {
         let places = geometry.total() - geometry.table_at();
         Ok(Journal {
@@ -105,7 +108,8 @@ impl Journal {
     pub fn read<D: Disk>(&self, disk: &mut D, at: u32, into: &mut Block) -> Result<(), DiskFault>
         requires rests { Rests self.now (D.known disk.old) }
         requires place { MayStage self.now.geometry at }
-        ensures block { (D.known disk.old).tells ≡ true → (kept : List Block) → IsKept self.now.geometry (D.known disk.old) kept
+        ensures block { (D.known disk.old).tells ≡ true
+            → (kept : List Block) → IsKept self.now.geometry (D.known disk.old) kept
             → OnOk result (slice_get (now_of self.now.staged kept) at ≡ Some into.new) }
         ensures staged { IfSome (get self.now.staged at) (λ block. IsOk result × (into.new ≡ block)) }
         ensures unchanged { Unchanged (D.known disk.old) (D.known disk.new) }
@@ -135,8 +139,8 @@ impl Journal {
         }
     }
 
-    /// Drops what is staged for a place from the table on, so that it is as the disk has kept it. What was counted stays
-    /// counted.
+    /// Drops what is staged for a place from the table on, so that it is as the disk has kept it. What was counted
+    /// stays counted.
     pub fn forget(&mut self, at: u32)
         requires { MayStage self.old.geometry at }
         ensures { self.new ≡ forgetting self.old at }
@@ -151,11 +155,11 @@ impl Journal {
         self.geometry.slack - self.count
     }
 
-    /// Makes what is staged outlast a stop, all of it or, where a stop comes before, none. It answers the clock after it.
-    /// Where nothing is staged it asks nothing of the disk.
+    /// Makes what is staged outlast a stop, all of it or, where a stop comes before, none. It answers the clock after
+    /// it. Where nothing is staged it asks nothing of the disk.
     ///
-    /// An `Err` comes only where the disk failed. The journal is not started then, and what the disk holds stands for the
-    /// blocks of before or of after.
+    /// An `Err` comes only where the disk failed. The journal is not started then, and what the disk holds stands for
+    /// the blocks of before or of after.
     pub fn commit<D: Disk>(&mut self, disk: &mut D) -> Result<u64, DiskFault>
         requires { Rests self.old (D.known disk.old) }
         ensures started { OnOk result (self.new ≡ started_anew self.old) }

@@ -21,12 +21,14 @@ pub fn stages_and_forgets()
     ensures gates { (journal : Journal) → KeepsGates journal }
 {}
 
-/// A journal and its disk still belong together after a block was staged or forgotten, after reads of the disk, whatever
-/// they answered, and after syncs that succeeded.
+/// A journal and its disk still belong together after a block was staged or forgotten, after reads of the disk,
+/// whatever they answered, and after syncs that succeeded.
 pub fn still_rests<D: Disk>()
     ensures changes { (journal : Journal) (at : ℕ) → ChangesStaySound D.known journal at }
-    ensures reads { (journal : Journal) (old new : D) → Goes (D.known old) (D.known new) → Unchanged (D.known old) (D.known new) → KeepsAll journal (D.known old) (D.known new) }
-    ensures syncs { (journal : Journal) (old new : D) → IsSynced (D.known old) (D.known new) → KeepsAll journal (D.known old) (D.known new) }
+    ensures reads { (journal : Journal) (old new : D) → Goes (D.known old) (D.known new)
+        → Unchanged (D.known old) (D.known new) → KeepsAll journal (D.known old) (D.known new) }
+    ensures syncs { (journal : Journal) (old new : D) → IsSynced (D.known old) (D.known new)
+        → KeepsAll journal (D.known old) (D.known new) }
 {}
 
 /// While nothing is written, a stop leaves an image that stands for the blocks that a disk has kept.
@@ -39,5 +41,6 @@ pub fn kept_is_left<D: Disk>()
 /// An image whose slots can be replayed stands for blocks in which every gate is closed, and lacks no list.
 pub fn stands_for_some()
     ensures some { (geometry : Geometry) (image : List Block) → StandsForSome geometry image }
-    ensures lists { (geometry : Geometry) (image laid : List Block) (block : ℕ) → Lays geometry image laid → ¬ LacksList geometry image block }
+    ensures lists { (geometry : Geometry) (image laid : List Block) (block : ℕ) → Lays geometry image laid
+        → ¬ LacksList geometry image block }
 {}

@@ -2,7 +2,8 @@ ghost use Rattle.std.specs.Prelude.{◌≡◌, ◌+◌, ◌-◌, ◌<◌, ◌≤
 ghost use Rattle.nesc_base.specs.Geometry.{IsGeometry, table_at, total};
 ghost use Rattle.slot_layout.specs.Slots.{AreOpen, LacksList, blocks_from};
 ghost use Rattle.host_journal.specs.Replays.{Replays};
-ghost use Rattle.host_journal.specs.Replaying.{AreGates, AreJudged, AreLaid, AreLow, BringsHome, ClosesFirst, ClosesOthers, Reads};
+ghost use Rattle.host_journal.specs.Replaying.{AreGates, AreJudged, AreLaid, AreLow};
+ghost use Rattle.host_journal.specs.Replaying.{BringsHome, ClosesFirst, ClosesOthers, Reads};
 ghost use Rattle.host_journal.specs.Sound.{IsReady};
 ghost use Rattle.host_journal.specs.Starting.{Starts};
 ghost use Rattle.host_journal.specs.declared.journal.StartFault.TheVariants as fault;
@@ -72,7 +73,8 @@ impl Replay {
     fn close_first<D: Disk>(&mut self, disk: &mut D, opened: &[bool; 4]) -> Result<(), StartFault>
         requires ready { IsReady self.old }
         requires enough { total self.old.geometry ≤ (D.known disk.old).size }
-        requires gates { (D.known disk.old).tells ≡ true → AreGates self.old.geometry (D.known disk.old).contents opened.now }
+        requires gates { (D.known disk.old).tells ≡ true
+            → AreGates self.old.geometry (D.known disk.old).contents opened.now }
         ensures closes { ClosesFirst self.old.geometry (D.known disk.old) (D.known disk.new) result }
         ensures ready { IsReady self.new }
         ensures geometry { self.new.geometry ≡ self.old.geometry }
@@ -93,9 +95,12 @@ impl Replay {
     fn judge<D: Disk>(&mut self, disk: &mut D, opened: &[bool; 4]) -> Result<(), StartFault>
         requires ready { IsReady self.old }
         requires enough { total self.old.geometry ≤ (D.known disk.old).size }
-        requires gates { (D.known disk.old).tells ≡ true → AreGates self.old.geometry (D.known disk.old).contents opened.now }
-        ensures judged { (D.known disk.old).tells ≡ true → OnOk result (AreJudged self.old.geometry (D.known disk.old).contents self.new.sources.items) }
-        ensures lacks { (D.known disk.old).tells ≡ true → (block : ℕ) → IsErrOf result (fault.BadList block) → LacksList self.old.geometry (D.known disk.old).contents block }
+        requires gates { (D.known disk.old).tells ≡ true
+            → AreGates self.old.geometry (D.known disk.old).contents opened.now }
+        ensures judged { (D.known disk.old).tells ≡ true
+            → OnOk result (AreJudged self.old.geometry (D.known disk.old).contents self.new.sources.items) }
+        ensures lacks { (D.known disk.old).tells ≡ true → (block : ℕ) → IsErrOf result (fault.BadList block)
+            → LacksList self.old.geometry (D.known disk.old).contents block }
         ensures reads { Reads (D.known disk.old) (D.known disk.new) (IsErrOf result (fault.Disk _)) }
         ensures ready { IsReady self.new }
         ensures low { OnOk result (AreLow self.old.geometry self.new.sources.items) }
@@ -124,7 +129,8 @@ impl Replay {
             → OnOk result (AreLaid self.old.geometry (D.known disk.old).contents k self.new.sources.items) }
         ensures lacks { (D.known disk.old).tells ≡ true → AreOpen self.old.geometry (D.known disk.old).contents k
             → AreLaid self.old.geometry (D.known disk.old).contents (k - 1) self.old.sources.items
-            → (block : ℕ) → IsErrOf result (fault.BadList block) → LacksList self.old.geometry (D.known disk.old).contents block }
+            → (block : ℕ) → IsErrOf result (fault.BadList block)
+            → LacksList self.old.geometry (D.known disk.old).contents block }
         ensures reads { Reads (D.known disk.old) (D.known disk.new) (IsErrOf result (fault.Disk _)) }
         ensures ready { IsReady self.new }
         ensures low { OnOk result (AreLow self.old.geometry self.new.sources.items) }
@@ -150,7 +156,8 @@ impl Replay {
         requires ready { IsReady self.now }
         requires low { AreLow self.now.geometry self.now.sources.items }
         requires enough { total self.now.geometry ≤ (D.known disk.old).size }
-        ensures brings { BringsHome self.now.geometry self.now.sources.items (D.known disk.old) (D.known disk.new) result }
+        ensures brings { BringsHome self.now.geometry self.now.sources.items (D.known disk.old)
+            (D.known disk.new) result }
         ensures keeps { D.keeps disk.old disk.new }
     {
         let table_at = self.geometry.table_at();
@@ -187,7 +194,8 @@ fn read_gates<D: Disk>(disk: &mut D, geometry: Geometry) -> Result<[bool; 4], Di
 fn read_list<D: Disk>(disk: &mut D, list_at: u32, list: &mut [Block]) -> Result<(), DiskFault>
     requires within { list_at + length list.old ≤ (D.known disk.old).size }
     requires fits { list_at + length list.old < 2 ^ 32 }
-    ensures list { (D.known disk.old).tells ≡ true → OnOk result (list.new ≡ blocks_from (D.known disk.old).contents list_at (length list.old)) }
+    ensures list { (D.known disk.old).tells ≡ true
+        → OnOk result (list.new ≡ blocks_from (D.known disk.old).contents list_at (length list.old)) }
     ensures reads { Reads (D.known disk.old) (D.known disk.new) (IsErr result) }
     ensures keeps { D.keeps disk.old disk.new }
 {

@@ -8,7 +8,8 @@ use nesc_base::{Block, NoMemory};
 use std::alloc::Global;
 use std::marker::Model;
 
-/// The blocks that are staged, each of which one look-up finds by the place that it is for. All memory is taken at first.
+/// The blocks that are staged, each of which one look-up finds by the place that it is for. All memory is taken at
+/// first.
 #[derive(Drop)]
 pub(crate) struct StagedBlocks {
     // the first place that a block can be staged for
@@ -36,7 +37,8 @@ impl Model for StagedBlocks {
       room = s.room;
     } };
 
-    ghost invariant = { λ s. AreStaged s.from s.index.items s.targets.items s.blocks.items s.room (vec_capacity s.targets) (vec_capacity s.blocks) };
+    ghost invariant = { λ s. AreStaged s.from s.index.items s.targets.items s.blocks.items s.room
+        (vec_capacity s.targets) (vec_capacity s.blocks) };
 }
 
 impl StagedBlocks {

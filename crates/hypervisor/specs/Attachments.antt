@@ -1,5 +1,6 @@
 -- Which file each function has.
-use Rattle.std.specs.Prelude.{◌≡◌, ℕ, ◌+◌, ◌<◌, ◌≤◌, Bool, false, if◌then◌else◌, List, map, length, Option, Some, None, option_map, is_none, unwrap_or}
+use Rattle.std.specs.Prelude.{◌≡◌, ℕ, ◌+◌, ◌<◌, ◌≤◌, Bool, false, if◌then◌else◌, List, map}
+use Rattle.std.specs.Prelude.{length, Option, Some, None, option_map, is_none, unwrap_or}
 use Rattle.std.specs.Option.{option_map_or}
 use Rattle.std.specs.Int.{bit_at}
 use Rattle.nesc_base.specs.declared.numbers.FileNo.{FileNo}
@@ -26,7 +27,8 @@ file_numbers = map (λ function. option_map (λ attached. record { 0 = attached.
 
 -- a bit is set for just those functions for which requests wait, the lowest for the first
 abbrev pub AreQueued : ℕ → List Function → Type 0
-AreQueued bits functions = (k : ℕ) → k < length functions → bit_at bits k ≡ (if is_empty (queue_of (function_at functions (k + 1))) then 0 else 1)
+AreQueued bits functions = (k : ℕ) → k < length functions
+    → bit_at bits k ≡ (if is_empty (queue_of (function_at functions (k + 1))) then 0 else 1)
 
 -- the functions have these files, and for these of them requests wait
 pub record AreFunctions (attachments : Attachments) (queued : ℕ) (functions : List Function) : Type 0 where

@@ -31,9 +31,10 @@ IsForHost Sync = ⊥
 IsForHost (Regs f) = ⊥
 IsForHost command = Unit {0}
 
--- The files that the blocks showed change so, with their places, and the blocks show those that they become. So many blocks are
--- counted as staged.
-pub record Carries (old : Layer) (before : Journal) (kept : List Block) (set : Files) (places : Places) (changes : List Change) (new : Layer) (after : Journal) : Type 0 where
+-- The files that the blocks showed change so, with their places, and the blocks show those that they become. So many
+-- blocks are counted as staged.
+pub record Carries (old : Layer) (before : Journal) (kept : List Block) (set : Files) (places : Places)
+    (changes : List Change) (new : Layer) (after : Journal) : Type 0 where
   pub others : Files
   pub elsewhere : Places
   pub leads : LeadsTo set changes others
@@ -42,24 +43,31 @@ pub record Carries (old : Layer) (before : Journal) (kept : List Block) (set : F
   pub counted : after.count ≡ before.count + staged changes
 
 -- The command is answered, and the files and the functions change, by one step of the machine.
-pub record DoesCommand (attachments : Attachments) (old : Layer) (before : Journal) (kept : List Block) (set : Files) (places : Places)
-    (functions : List Function) (command : HostCommand) (done : HostDone) (attached : Attachments) (new : Layer) (after : Journal) : Type 0 where
+pub record DoesCommand (attachments : Attachments) (old : Layer) (before : Journal) (kept : List Block)
+    (set : Files) (places : Places)
+    (functions : List Function) (command : HostCommand) (done : HostDone) (attached : Attachments) (new : Layer)
+    (after : Journal) : Type 0 where
   pub changes : List Change
-  pub step : HostStep old.geometry.blocks set functions command done.answer changes (told done.change attached functions)
+  pub step :
+      HostStep old.geometry.blocks set functions command done.answer changes (told done.change attached functions)
   pub carries : Carries old before kept set places changes new after
   pub tells : TellsDevice set functions command done.answer done.change
   pub files : file_numbers (told done.change attached functions) ≡ attached
 
 -- so it is for whatever files these blocks show, and whatever functions have these files
-abbrev pub DoesOver : List Block → Attachments → ℕ → Layer → Journal → HostCommand → HostDone → Attachments → Layer → Journal → Type 0
+abbrev pub DoesOver : List Block → Attachments → ℕ → Layer → Journal → HostCommand → HostDone → Attachments
+    → Layer → Journal → Type 0
 DoesOver kept attachments queued old before command done attached new after =
-    (set : Files) (places : Places) (functions : List Function) → Shows old before.staged kept set places → AreFunctions attachments queued functions
+    (set : Files) (places : Places) (functions : List Function) → Shows old before.staged kept set places
+    → AreFunctions attachments queued functions
     → DoesCommand attachments old before kept set places functions command done attached new after
 
 -- and whatever blocks a disk has kept, if it tells
-abbrev pub DoesOnDisk : Known → Attachments → ℕ → Layer → Journal → HostCommand → HostDone → Attachments → Layer → Journal → Type 0
+abbrev pub DoesOnDisk : Known → Attachments → ℕ → Layer → Journal → HostCommand → HostDone → Attachments
+    → Layer → Journal → Type 0
 DoesOnDisk disk attachments queued old before command done attached new after =
-    disk.tells ≡ true → (kept : List Block) → IsKept before.geometry disk kept → DoesOver kept attachments queued old before command done attached new after
+    disk.tells ≡ true → (kept : List Block) → IsKept before.geometry disk kept
+    → DoesOver kept attachments queued old before command done attached new after
 
 -- Functions and their files, over any disk
 
@@ -73,7 +81,8 @@ KeepsUsed old files new others = AreUsed old files → AreUsed new others
 
 -- a function loses its file only where no request waits for it
 abbrev pub OnlyIdleGo : ℕ → Attachments → Attachments → Type 0
-OnlyIdleGo queued old new = (f : ℕ) (file : FileNo) → file_of old f ≡ Some file → file_of new f ≡ None → bit_at queued (f - 1) ≡ 0
+OnlyIdleGo queued old new = (f : ℕ) (file : FileNo) → file_of old f ≡ Some file → file_of new f ≡ None
+    → bit_at queued (f - 1) ≡ 0
 
 -- Buffers
 

@@ -22,10 +22,13 @@ IsEntered files name n = (entry : TableEntry) × (entry_of files n ≡ Some entr
 -- how many blocks of a file of this name are not held, or why they are not to be had
 abbrev pub LackAnswers : ℕ → Files → List ℕ → ℕ → ℕ → Result ℕ FileFault → Type 0
 LackAnswers blocks set name v n (Err NoFile) = IsUnnamed set name
-LackAnswers blocks set name v n result = (number : ℕ) × (file : File) × HasName set name number file × HoldAnswers blocks set number v n result
+LackAnswers blocks set name v n result =
+    (number : ℕ) × (file : File) × HasName set name number file × HoldAnswers blocks set number v n result
 
 -- there is room in the journal for what the command stages, if it is not refused
 abbrev pub HasRoomToDo : Layer → HostCommand → Journal → Type 0
-HasRoomToDo files (Put name v blocks) journal = (n : ℕ) → IsEntered files name n → HasRoomFor files n v (length blocks) → HasRoom journal (length blocks)
-HasRoomToDo files (Map name v count) journal = (n : ℕ) → IsEntered files name n → HasRoomFor files n v count → HasRoom journal (length (lacking files n v count))
+HasRoomToDo files (Put name v blocks) journal = (n : ℕ) → IsEntered files name n → HasRoomFor files n v (length blocks)
+    → HasRoom journal (length blocks)
+HasRoomToDo files (Map name v count) journal = (n : ℕ) → IsEntered files name n → HasRoomFor files n v count
+    → HasRoom journal (length (lacking files n v count))
 HasRoomToDo files command journal = Unit {0}

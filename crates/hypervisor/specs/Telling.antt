@@ -17,7 +17,8 @@ use Rattle.hypervisor.specs.declared.change.Change.TheVariants.{Nothing, Attache
 
 -- the functions, as the device has them after what it is told; these are the files that they have then
 abbrev pub told : Change → Attachments → List Function → List Function
-told (Attached f length) files functions = with_numbered functions f.0 (attached_to (function_at functions f.0) (unwrap_or (file_of files f.0) (record { 0 = 0 })).0)
+told (Attached f length) files functions = with_numbered functions f.0
+    (attached_to (function_at functions f.0) (unwrap_or (file_of files f.0) (record { 0 = 0 })).0)
 told (Detached f) files functions = with_numbered functions f.0 (detached (function_at functions f.0))
 told change files functions = functions
 
@@ -39,15 +40,18 @@ TellsBlocks (Some f) count change = change ≡ (if nat_lt 0 count then Remapped 
 abbrev pub OfFile : Files → List ℕ → (ℕ → File → Type 0) → Type 0
 OfFile files name tells = (number : ℕ) × (file : File) × HasName files name number file × tells number file
 
--- What the device is told of a command that these files and functions answer so: of an attach and a detach that are done; of a
--- file that a function has and that got another length, or came to hold blocks; and of nothing else.
+-- What the device is told of a command that these files and functions answer so: of an attach and a detach that are
+-- done; of a file that a function has and that got another length, or came to hold blocks; and of nothing else.
 abbrev pub TellsDevice : Files → List Function → HostCommand → HostAnswer → Change → Type 0
-TellsDevice files functions (Attach f name) said.Ok change = OfFile files name (λ number file. change ≡ Attached f file.length)
+TellsDevice files functions (Attach f name) said.Ok change =
+    OfFile files name (λ number file. change ≡ Attached f file.length)
 TellsDevice files functions (Detach f) said.Ok change = change ≡ Detached f
 TellsDevice files functions (Resize name length) said.Ok change =
-    OfFile files name (λ number file. TellsLength (function_with functions number) length (nat_lt (len (below length file.body)) (len file.body)) change)
+    OfFile files name (λ number file. TellsLength (function_with functions number) length
+    (nat_lt (len (below length file.body)) (len file.body)) change)
 TellsDevice files functions (Put name v blocks) said.Ok change =
-    OfFile files name (λ number file. TellsBlocks (function_with functions number) (length (unheld file v (length blocks))) change)
+    OfFile files name
+    (λ number file. TellsBlocks (function_with functions number) (length (unheld file v (length blocks))) change)
 TellsDevice files functions (Map name v n) said.Ok change =
     OfFile files name (λ number file. TellsBlocks (function_with functions number) (length (unheld file v n)) change)
 TellsDevice files functions command answer change = change ≡ Nothing

@@ -5,7 +5,8 @@ ghost use Rattle.nesc_base.specs.Fault.{HasCause};
 ghost use Rattle.file_layer.specs.Changing.{GoesOn};
 ghost use Rattle.file_layer.specs.Layer.{Fits};
 ghost use Rattle.file_layer.specs.Showing.{RestsOn, StayShown};
-ghost use Rattle.hypervisor.specs.Carrying.{DoesOnDisk, DoesOver, IsForHost, IsSpent, KeepsUsed, OnlyIdleGo, refusal_of};
+ghost use Rattle.hypervisor.specs.Carrying.{DoesOnDisk, DoesOver, IsForHost, IsSpent};
+ghost use Rattle.hypervisor.specs.Carrying.{KeepsUsed, OnlyIdleGo, refusal_of};
 ghost use Rattle.hypervisor.specs.Needing.{HasRoomToDo};
 ghost use Rattle.hypervisor.specs.Telling.{TellsBlocks, TellsLength};
 ghost use Rattle.hypervisor.specs.declared.change.Change.TheVariants.{Nothing};
@@ -19,11 +20,12 @@ use host_journal::Journal;
 use nesc_base::{Blocks, Disk, FnNo, Name};
 use nesc_requests::{HostAnswer, HostCommand};
 
-/// Does what the host asks for, if it can, and tells what that changes for a function. A `sync` and the reading of registers are
-/// not for this call. `queued` has a bit for each function for which requests wait, the lowest for the first.
+/// Does what the host asks for, if it can, and tells what that changes for a function. A `sync` and the reading of
+/// registers are not for this call. `queued` has a bit for each function for which requests wait, the lowest for the
+/// first.
 ///
-/// The journal has room for what `needs` says of the command. A command that is refused changes nothing. `Media` says that the
-/// disk failed to read.
+/// The journal has room for what `needs` says of the command. A command that is refused changes nothing. `Media` says
+/// that the disk failed to read.
 pub fn command<D: Disk>(
     attachments: &mut Attachments,
     files: &mut Files,
@@ -36,7 +38,8 @@ pub fn command<D: Disk>(
     requires within { IsWithinLimits command }
     requires here { IsForHost command }
     requires room { HasRoomToDo files.old command journal.old }
-    ensures does { DoesOnDisk (D.known disk.old) attachments.old queued files.old journal.old command result attachments.new files.new journal.new }
+    ensures does { DoesOnDisk (D.known disk.old) attachments.old queued files.old journal.old command result
+        attachments.new files.new journal.new }
     ensures spent { IsSpent command result }
     ensures used { KeepsUsed attachments.old files.old attachments.new files.new }
     ensures idle { OnlyIdleGo queued attachments.old attachments.new }
@@ -141,7 +144,8 @@ fn create(
     requires fits { Fits files.old journal.old }
     requires within { IsWithinLimits (HostCommand.Create name length) }
     requires room { HasRoomToDo files.old (HostCommand.Create name length) journal.old }
-    ensures does { (kept : List Block) → DoesOver kept attachments.now queued files.old journal.old (HostCommand.Create name length) result attachments.now files.new journal.new }
+    ensures does { (kept : List Block) → DoesOver kept attachments.now queued files.old journal.old
+        (HostCommand.Create name length) result attachments.now files.new journal.new }
     ensures spent { IsSpent (HostCommand.Create name length) result }
     ensures stays { StayShown files.old journal.old files.new journal.new }
     ensures fits { Fits files.new journal.new }
@@ -166,7 +170,8 @@ fn delete(
     requires fits { Fits files.old journal.old }
     requires within { IsWithinLimits (HostCommand.Delete name.now) }
     requires room { HasRoomToDo files.old (HostCommand.Delete name.now) journal.old }
-    ensures does { (kept : List Block) → DoesOver kept attachments.now queued files.old journal.old (HostCommand.Delete name.now) result attachments.now files.new journal.new }
+    ensures does { (kept : List Block) → DoesOver kept attachments.now queued files.old journal.old
+        (HostCommand.Delete name.now) result attachments.now files.new journal.new }
     ensures spent { IsSpent (HostCommand.Delete name.now) result }
     ensures stays { StayShown files.old journal.old files.new journal.new }
     ensures fits { Fits files.new journal.new }
@@ -222,7 +227,8 @@ fn resize(
     requires fits { Fits files.old journal.old }
     requires within { IsWithinLimits (HostCommand.Resize name.now length) }
     requires room { HasRoomToDo files.old (HostCommand.Resize name.now length) journal.old }
-    ensures does { (kept : List Block) → DoesOver kept attachments.now queued files.old journal.old (HostCommand.Resize name.now length) result attachments.now files.new journal.new }
+    ensures does { (kept : List Block) → DoesOver kept attachments.now queued files.old journal.old
+        (HostCommand.Resize name.now length) result attachments.now files.new journal.new }
     ensures spent { IsSpent (HostCommand.Resize name.now length) result }
     ensures stays { StayShown files.old journal.old files.new journal.new }
     ensures fits { Fits files.new journal.new }
@@ -256,7 +262,8 @@ fn put(
     requires fits { Fits files.old journal.old }
     requires within { IsWithinLimits (HostCommand.Put name.now v blocks) }
     requires room { HasRoomToDo files.old (HostCommand.Put name.now v blocks) journal.old }
-    ensures does { (kept : List Block) → DoesOver kept attachments.now queued files.old journal.old (HostCommand.Put name.now v blocks) result attachments.now files.new journal.new }
+    ensures does { (kept : List Block) → DoesOver kept attachments.now queued files.old journal.old
+        (HostCommand.Put name.now v blocks) result attachments.now files.new journal.new }
     ensures spent { IsSpent (HostCommand.Put name.now v blocks) result }
     ensures stays { StayShown files.old journal.old files.new journal.new }
     ensures fits { Fits files.new journal.new }
@@ -290,7 +297,8 @@ fn map(
     requires fits { Fits files.old journal.old }
     requires within { IsWithinLimits (HostCommand.Map name.now v n) }
     requires room { HasRoomToDo files.old (HostCommand.Map name.now v n) journal.old }
-    ensures does { (kept : List Block) → DoesOver kept attachments.now queued files.old journal.old (HostCommand.Map name.now v n) result attachments.now files.new journal.new }
+    ensures does { (kept : List Block) → DoesOver kept attachments.now queued files.old journal.old
+        (HostCommand.Map name.now v n) result attachments.now files.new journal.new }
     ensures spent { IsSpent (HostCommand.Map name.now v n) result }
     ensures stays { StayShown files.old journal.old files.new journal.new }
     ensures fits { Fits files.new journal.new }
@@ -323,7 +331,8 @@ fn attach(
     requires fits { Fits files.now journal.now }
     requires within { IsWithinLimits (HostCommand.Attach f name.now) }
     requires room { HasRoomToDo files.now (HostCommand.Attach f name.now) journal.now }
-    ensures does { (kept : List Block) → DoesOver kept attachments.old queued files.now journal.now (HostCommand.Attach f name.now) result attachments.new files.now journal.now }
+    ensures does { (kept : List Block) → DoesOver kept attachments.old queued files.now journal.now
+        (HostCommand.Attach f name.now) result attachments.new files.now journal.now }
     ensures spent { IsSpent (HostCommand.Attach f name.now) result }
     ensures as_many { length attachments.new ≡ length attachments.old }
     ensures used { KeepsUsed attachments.old files.now attachments.new files.now }
@@ -361,7 +370,8 @@ fn detach(
     requires fits { Fits files.now journal.now }
     requires within { IsWithinLimits (HostCommand.Detach f) }
     requires room { HasRoomToDo files.now (HostCommand.Detach f) journal.now }
-    ensures does { (kept : List Block) → DoesOver kept attachments.old queued files.now journal.now (HostCommand.Detach f) result attachments.new files.now journal.now }
+    ensures does { (kept : List Block) → DoesOver kept attachments.old queued files.now journal.now
+        (HostCommand.Detach f) result attachments.new files.now journal.now }
     ensures spent { IsSpent (HostCommand.Detach f) result }
     ensures as_many { length attachments.new ≡ length attachments.old }
     ensures used { KeepsUsed attachments.old files.now attachments.new files.now }
@@ -395,7 +405,8 @@ fn get<D: Disk>(
 ) -> HostDone
     requires rests { RestsOn files.now journal.now (D.known disk.old) }
     requires within { IsWithinLimits (HostCommand.Get name.now v into) }
-    ensures does { DoesOnDisk (D.known disk.old) attachments.now queued files.now journal.now (HostCommand.Get name.now v into) result attachments.now files.now journal.now }
+    ensures does { DoesOnDisk (D.known disk.old) attachments.now queued files.now journal.now
+        (HostCommand.Get name.now v into) result attachments.now files.now journal.now }
     ensures spent { IsSpent (HostCommand.Get name.now v into) result }
     ensures cause { HasCause (D.known disk.old).faults (D.known disk.new).faults (result.answer ≡ said.Media) }
     ensures unchanged { Unchanged (D.known disk.old) (D.known disk.new) }

@@ -15,15 +15,17 @@ use file_layer::{FileFault, Files};
 use nesc_base::Name;
 use nesc_requests::HostCommand;
 
-/// How many data blocks the command will stage, 0 to 64: those of a `put`, and those of a `map` that are not held yet. One that
-/// will be refused stages none.
+/// How many data blocks the command will stage, 0 to 64: those of a `put`, and those of a `map` that are not held yet.
+/// One that will be refused stages none.
 pub fn needs(files: &Files, command: &HostCommand) -> u32
     requires layer { IsLayer files.now }
     requires within { IsWithinLimits command.now }
     ensures few { result ≤ most_in_request }
     ensures room { (journal : Journal) → HasRoom journal result → HasRoomToDo files.now command.now journal }
-    ensures asks { (journal : Journal) → journal.count ≤ journal.geometry.slack → HasRoomToDo files.now command.now journal → HasRoom journal result }
-    ensures need { OfFiles files.now (λ set _. (functions : List Function) (answer : HostAnswer) (changes : List Change) (new : List Function)
+    ensures asks { (journal : Journal) → journal.count ≤ journal.geometry.slack
+        → HasRoomToDo files.now command.now journal → HasRoom journal result }
+    ensures need { OfFiles files.now (λ set _.
+        (functions : List Function) (answer : HostAnswer) (changes : List Change) (new : List Function)
         → HostStep files.now.geometry.blocks set functions command.now answer changes new → result ≡ staged changes) }
 {
     match command {
@@ -41,7 +43,8 @@ fn lacking(files: &Files, name: &Name, v: u32, n: u32) -> Result<u32, FileFault>
     requires layer { IsLayer files.now }
     requires few { n ≤ most_in_request }
     requires begins { v ≤ longest_file }
-    ensures takes { IfOk result (λ count. (k : ℕ) × IsEntered files.now name.now k × HasRoomFor files.now k v n × (count ≡ length (lacking files.now k v n))) }
+    ensures takes { IfOk result (λ count. (k : ℕ) × IsEntered files.now name.now k × HasRoomFor files.now k v n
+        × (count ≡ length (lacking files.now k v n))) }
     ensures refused { OnErr result ((k : ℕ) → IsEntered files.now name.now k → ¬ HasRoomFor files.now k v n) }
     ensures answers { OfFiles files.now (λ set _. LackAnswers files.now.geometry.blocks set name.now v n result) }
 {

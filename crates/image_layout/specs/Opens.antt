@@ -1,5 +1,6 @@
 -- When an image opens, and as which files.
-use Rattle.std.specs.Prelude.{◌≡◌, ◌↔◌, ℕ, ◌+◌, ◌-◌, ◌*◌, ◌<◌, ◌≤◌, List, length, map, drop, take, Option, Some, None, IsSome, is_some, option_map, slice_get, unwrap_or}
+use Rattle.std.specs.Prelude.{◌≡◌, ◌↔◌, ℕ, ◌+◌, ◌-◌, ◌*◌, ◌<◌, ◌≤◌, List, length, map, drop, take}
+use Rattle.std.specs.Prelude.{Option, Some, None, IsSome, is_some, option_map, slice_get, unwrap_or}
 use Rattle.std.specs.FinMap.{get}
 use Rattle.nesc_base.specs.declared.block.Block.{Block}
 use Rattle.nesc_base.specs.declared.geometry.Geometry.{Geometry}
@@ -32,29 +33,35 @@ IsMapBlock geometry laid entries b owners =
     AreOwners (lengths_of entries) (entries_in geometry b) (block_at laid (map_at geometry + b)) owners
 
 -- the owners of all data blocks, in their order
-pub record IsMap (geometry : Geometry) (laid : List Block) (entries : List (Option TableEntry)) (owners : List (Option Owner)) : Type 0 where
+pub record IsMap (geometry : Geometry) (laid : List Block) (entries : List (Option TableEntry))
+    (owners : List (Option Owner)) : Type 0 where
   pub count : length owners ≡ block_owners * map_blocks geometry
-  pub each : (b : ℕ) → b < map_blocks geometry → IsMapBlock geometry laid entries b (take block_owners (drop (block_owners * b) owners))
+  pub each : (b : ℕ) → b < map_blocks geometry
+      → IsMapBlock geometry laid entries b (take block_owners (drop (block_owners * b) owners))
 
 -- data block k repeats an earlier one
 abbrev pub Repeats : List (Option Owner) → ℕ → Owner → Type 0
-Repeats owners k owner = (slice_get owners k ≡ Some (Some owner)) × ((j : ℕ) × (j < k) × (slice_get owners j ≡ Some (Some owner)))
+Repeats owners k owner =
+    (slice_get owners k ≡ Some (Some owner)) × ((j : ℕ) × (j < k) × (slice_get owners j ≡ Some (Some owner)))
 
 -- What the blocks of an image say that are laid over, part by part: the entries of the table and the owners of the data
 -- blocks, none of which repeats another.
-pub record HasParts (geometry : Geometry) (laid : List Block) (entries : List (Option TableEntry)) (owners : List (Option Owner)) : Type 0 where
+pub record HasParts (geometry : Geometry) (laid : List Block) (entries : List (Option TableEntry))
+    (owners : List (Option Owner)) : Type 0 where
   pub table : IsTable (block_at laid (table_at geometry)) entries
   pub owned : IsMap geometry laid entries owners
   pub once : (k : ℕ) (owner : Owner) → ¬ Repeats owners k owner
 
 -- what an image says: its division, itself with its slots laid over, and the parts of that
-pub record Says (image : List Block) (geometry : Geometry) (laid : List Block) (entries : List (Option TableEntry)) (owners : List (Option Owner)) : Type 0 where
+pub record Says (image : List Block) (geometry : Geometry) (laid : List Block) (entries : List (Option TableEntry))
+    (owners : List (Option Owner)) : Type 0 where
   pub divided : IsDivided image geometry
   pub lays : Lays geometry image laid
   pub parts : HasParts geometry laid entries owners
 
 -- a block at v of file n is held in the data block that has this owner
-pub record IsHeld (geometry : Geometry) (laid : List Block) (owners : List (Option Owner)) (n v : ℕ) (block : Block) : Type 0 where
+pub record IsHeld (geometry : Geometry) (laid : List Block) (owners : List (Option Owner)) (n v : ℕ)
+    (block : Block) : Type 0 where
   pub k : ℕ
   pub owner : Owner
   pub owned : slice_get owners k ≡ Some (Some owner)
@@ -63,13 +70,17 @@ pub record IsHeld (geometry : Geometry) (laid : List Block) (owners : List (Opti
   pub stands : slice_get laid (area_from geometry + k) ≡ Some block
 
 -- the files are those of the entries, entry e of file e + 1, and hold what the owners say
-pub record AreFiles (geometry : Geometry) (laid : List Block) (entries : List (Option TableEntry)) (owners : List (Option Owner)) (files : Files) : Type 0 where
+pub record AreFiles (geometry : Geometry) (laid : List Block) (entries : List (Option TableEntry))
+    (owners : List (Option Owner)) (files : Files) : Type 0 where
   pub none : get files 0 ≡ None
-  pub named : (e : ℕ) → option_map (λ file. record { name = file.name; length = file.length }) (get files (e + 1)) ≡ unwrap_or (slice_get entries e) None
-  pub held : (n v : ℕ) (file : File) (block : Block) → get files n ≡ Some file → (get file.body v ≡ Some block) ↔ IsHeld geometry laid owners n v block
+  pub named : (e : ℕ) → option_map (λ file. record { name = file.name; length = file.length }) (get files (e + 1))
+      ≡ unwrap_or (slice_get entries e) None
+  pub held : (n v : ℕ) (file : File) (block : Block) → get files n ≡ Some file
+      → (get file.body v ≡ Some block) ↔ IsHeld geometry laid owners n v block
 
 -- there are places for each of the files and for no other, and they are those of the owners
-pub record ArePlaces (geometry : Geometry) (owners : List (Option Owner)) (files : Files) (places : Places) : Type 0 where
+pub record ArePlaces (geometry : Geometry) (owners : List (Option Owner)) (files : Files)
+    (places : Places) : Type 0 where
   pub filed : (n : ℕ) → is_some (get places n) ≡ is_some (get files n)
   pub each : (n v at : ℕ) → IsSome (get files n) → Owns places n v at ↔ IsOwned (area_from geometry) owners n v at
 

@@ -5,7 +5,8 @@ use Rattle.nesc_base.specs.declared.geometry.Geometry.{Geometry}
 use Rattle.nesc_base.specs.Geometry.{map_at, map_blocks, table_at, total}
 use Rattle.nesc_base.specs.Places.{Owner}
 use Rattle.image_layout.specs.declared.fault.ImageFault.{ImageFault}
-use Rattle.image_layout.specs.declared.fault.ImageFault.TheVariants.{BadSuper, BadSize, BadList, BadTable, BadOwner, TwiceOwned}
+use Rattle.image_layout.specs.declared.fault.ImageFault.TheVariants.{BadSuper, BadSize, BadList}
+use Rattle.image_layout.specs.declared.fault.ImageFault.TheVariants.{BadTable, BadOwner, TwiceOwned}
 use Rattle.image_layout.specs.declared.table.TableEntry.{TableEntry}
 use Rattle.image_layout.specs.Opens.{IsDivided, IsMap, IsMapBlock, Repeats}
 use Rattle.slot_layout.specs.Slots.{LacksList, Lays, block_at}
@@ -20,7 +21,8 @@ pub record LacksSuper (image : List Block) (place : ℕ) : Type 0 where
 
 -- there are fewer blocks than the superblock says, or none at all; the place is how many there are
 pub record LacksBlocks (image : List Block) (place : ℕ) : Type 0 where
-  pub few : (image ≡ []) ⊎ ((geometry : Geometry) × IsSuperblock (block_at image 0) geometry × (length image < total geometry))
+  pub few : (image ≡ [])
+      ⊎ ((geometry : Geometry) × IsSuperblock (block_at image 0) geometry × (length image < total geometry))
   pub at : place ≡ length image
 
 -- the table is none

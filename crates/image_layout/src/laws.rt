@@ -1,6 +1,8 @@
 ghost use Rattle.std.specs.Prelude.{List};
 ghost use Rattle.nesc_base.specs.declared.block.Block.{Block};
-ghost use Rattle.image_layout.specs.Laws.{HasFilesBesideSlots, HasNoFilesBesideSlots, IsDividedAsItStands, IsRefusedAsItStands, OpensAlone, OpensAsFileSet, OpensAsItStands, OpensAsNothing, OpensAsSaid, OpensBesideSlots, OpensOnce};
+ghost use Rattle.image_layout.specs.Laws.{HasFilesBesideSlots, HasNoFilesBesideSlots, IsDividedAsItStands};
+ghost use Rattle.image_layout.specs.Laws.{IsRefusedAsItStands, OpensAlone, OpensAsFileSet, OpensAsItStands};
+ghost use Rattle.image_layout.specs.Laws.{OpensAsNothing, OpensAsSaid, OpensBesideSlots, OpensOnce};
 
 /// An image opens as at most one division, one set of files and one set of places.
 pub fn opens_once()

@@ -14,7 +14,8 @@ use nesc_base::{Block, Disk, Geometry};
 /// then a disk with fewer blocks than it says, in this order. It never answers `NoMemory`.
 pub fn read_geometry<D: Disk>(disk: &mut D) -> Result<Geometry, OpenFault>
     ensures divided { (D.known disk.old).tells ≡ true → IfOk result (IsDivided (D.known disk.old).contents) }
-    ensures refused { (D.known disk.old).tells ≡ true → (fault : ImageFault) → IsErrOf result (Image fault) → IsRefused (D.known disk.old).contents fault }
+    ensures refused { (D.known disk.old).tells ≡ true → (fault : ImageFault) → IsErrOf result (Image fault)
+        → IsRefused (D.known disk.old).contents fault }
     ensures sizes { IfOk result IsGeometry }
     ensures enough { IfOk result (λ geometry. total geometry ≤ (D.known disk.old).size) }
     ensures memory { result ≢ Err NoMemory }

@@ -1,42 +1,48 @@
-ghost use Rattle.std.specs.Prelude.{◌≡◌, ◌≢◌, ◌<◌, ◌^◌, ℕ, IfSome, List, MatchOption, None, Option, Some, length, replicate, slice_get, slice_set};
+ghost use Rattle.std.specs.Prelude.{◌≡◌, ◌≢◌, ◌<◌, ◌^◌, ℕ, IfSome, List, MatchOption, None};
+ghost use Rattle.std.specs.Prelude.{Option, Some, length, replicate, slice_get, slice_set};
 ghost use Rattle.std.specs.Bool.{OnFalse, OnTrue};
-ghost use Rattle.image_layout.specs.Owners.{AreOwners, MayOwn, owner_block, owner_bytes};
+ghost use Rattle.image_layout.specs.Owners.{AreOwners, MayOwn, owner_block, owner_bytes, owner_size};
+ghost use Rattle.nesc_base.specs.Geometry.{block_owners};
 ghost use Rattle.nesc_base.specs.Places.{Owner};
 
 use byteorder::{ByteOrder, LittleEndian};
-use nesc_base::{BLOCK_BYTES, Block, FileNo};
+use nesc_base::{BLOCK_BYTES, Block, FileNo, Geometry};
 use std::marker::Model;
+
+// How many entries a map block has.
+const ENTRIES: usize = Geometry::BLOCK_OWNERS as usize;
 
 /// The owners of 128 data blocks: the file that holds each, and at which of its blocks, or `None` where it is free.
 #[derive(Debug, Drop)]
 pub struct Owners {
-    entries: [Option<(FileNo, u32)>; 128],
+    entries: [Option<(FileNo, u32)>; ENTRIES],
 }
 
 impl Model for Owners {
     ghost use Rattle.std.specs.Prelude.{◌≡◌, List, Option, length};
+    ghost use Rattle.nesc_base.specs.Geometry.{block_owners};
     ghost use Rattle.nesc_base.specs.Places.{Owner};
 
     ghost Value = { List (Option Owner) };
 
     ghost view = { λ o. o.entries };
 
-    ghost invariant = { λ o. length o.entries ≡ 128 };
+    ghost invariant = { λ o. length o.entries ≡ block_owners };
 }
 
 impl Owners {
     /// The owners of blocks that are all free.
     pub fn empty() -> Owners
-        ensures { result ≡ replicate 128 None }
+        ensures { result ≡ replicate block_owners None }
     {
         Owners {
-            entries: [None; 128],
+            entries: [None; ENTRIES],
         }
     }
 
     /// The owner of the block at a place, counted from 0.
     pub fn get(&self, k: u32) -> Option<(FileNo, u32)>
-        requires { k < 128 }
+        requires { k < block_owners }
         ensures { slice_get self.now k ≡ Some result }
     {
         self.entries[k as usize]
@@ -44,7 +50,7 @@ impl Owners {
 
     /// Puts the owner of the block at a place, counted from 0.
     pub fn set(&mut self, k: u32, owner: Option<(FileNo, u32)>)
-        requires { k < 128 }
+        requires { k < block_owners }
         ensures { self.new ≡ slice_set self.old k owner }
     {
         self.entries[k as usize] = owner;
@@ -68,8 +74,9 @@ fn owner_bytes(owner: &Option<(FileNo, u32)>) -> [u8; ENTRY_BYTES]
 
 // The one entry that these bytes may be the spelling of: no file is file 0.
 fn candidate(bytes: &[u8]) -> Option<(FileNo, u32)>
-    requires { length bytes.now ≡ 8 }
-    ensures { (owner : Option Owner) → IfSome owner (λ o. (o.0.0 ≢ 0) × (o.0.0 < 2 ^ 16) × (o.1 < 2 ^ 32)) → bytes.now ≡ owner_bytes owner → result ≡ owner }
+    requires { length bytes.now ≡ owner_size }
+    ensures { (owner : Option Owner) → IfSome owner (λ o. (o.0.0 ≢ 0) × (o.0.0 < 2 ^ 16) × (o.1 < 2 ^ 32))
+        → bytes.now ≡ owner_bytes owner → result ≡ owner }
 {
     let file = LittleEndian::read_u16(bytes);
     if file == 0 {
@@ -102,8 +109,10 @@ fn owner_of(
     entries: u32,
     k: u32,
 ) -> Option<Option<(FileNo, u32)>>
-    requires { length bytes.now ≡ 8 }
-    ensures { MatchOption result ((owner : Option Owner) → IfSome owner (MayOwn lengths.now entries k) → bytes.now ≢ owner_bytes owner) (λ owner. IfSome owner (MayOwn lengths.now entries k) × (bytes.now ≡ owner_bytes owner)) }
+    requires { length bytes.now ≡ owner_size }
+    ensures { MatchOption result
+        ((owner : Option Owner) → IfSome owner (MayOwn lengths.now entries k) → bytes.now ≢ owner_bytes owner)
+        (λ owner. IfSome owner (MayOwn lengths.now entries k) × (bytes.now ≡ owner_bytes owner)) }
 {
     let owner = candidate(bytes);
     if !may_own(lengths, entries, k, &owner) || bytes != owner_bytes(&owner).as_slice() {
@@ -115,10 +124,11 @@ fn owner_of(
 /// The owners that this map block has, or `None` where it is bad for these files. `lengths` has the length of file
 /// `k + 1` at place `k`, or `None` where that is not used; the first `entries` entries stand for data blocks.
 pub fn owners_of(block: &Block, lengths: &[Option<u32>], entries: u32) -> Option<Owners>
-    ensures { MatchOption result (¬ ((owners : _) × AreOwners lengths.now entries block.now owners)) (AreOwners lengths.now entries block.now) }
+    ensures { MatchOption result
+        (¬ ((owners : _) × AreOwners lengths.now entries block.now owners)) (AreOwners lengths.now entries block.now) }
 {
-    let mut owners = [None; 128];
-    for k in 0..128 {
+    let mut owners = [None; ENTRIES];
+    for k in 0..ENTRIES {
         let bytes = &block.0[ENTRY_BYTES * k..ENTRY_BYTES * (k + 1)];
         owners[k] = owner_of(bytes, lengths, entries, k as u32)?;
     }
@@ -129,7 +139,9 @@ pub fn owners_of(block: &Block, lengths: &[Option<u32>], entries: u32) -> Option
 pub fn owner_block(owners: &Owners) -> Block
     requires { (k : ℕ) (owner : Owner) → slice_get owners.now k ≡ Some (Some owner) → owner.0.0 ≢ 0 }
     ensures spelling { result ≡ owner_block owners.now }
-    ensures reads { (lengths : List (Option ℕ)) (entries : ℕ) → ((k : ℕ) (owner : Owner) → slice_get owners.now k ≡ Some (Some owner) → MayOwn lengths entries k owner) → AreOwners lengths entries result owners.now }
+    ensures reads { (lengths : List (Option ℕ)) (entries : ℕ) →
+        ((k : ℕ) (owner : Owner) → slice_get owners.now k ≡ Some (Some owner) → MayOwn lengths entries k owner) →
+        AreOwners lengths entries result owners.now }
 {
     let mut bytes = [0; BLOCK_BYTES];
     for (k, owner) in owners.entries.iter().enumerate() {

@@ -1,6 +1,6 @@
 ghost use Rattle.std.specs.Prelude.{◌≡◌, ◌≢◌, ◌≤◌, ◌++◌, Err, IfOk, IsErrOf, List, MatchResult, OnOk, length};
 ghost use Rattle.nesc_base.specs.declared.block.Block.{Block};
-ghost use Rattle.nesc_base.specs.Geometry.{IsGeometry, table_at, total};
+ghost use Rattle.nesc_base.specs.Geometry.{IsGeometry, block_owners, table_at, total};
 ghost use Rattle.image_layout.specs.declared.fault.ImageFault.{ImageFault};
 ghost use Rattle.image_layout.specs.declared.fault.OpenFault.TheVariants.{Disk, Image};
 ghost use Rattle.image_layout.specs.Opens.{IsDivided, IsMap, Says, lengths_of};
@@ -11,7 +11,7 @@ ghost use Rattle.image_layout.specs.Table.{AreEntries, IsTable};
 use crate::repeats::first_repeated;
 use crate::slots::lay_slots;
 use crate::{ImageFault, OpenFault, Owners, Table, owners_of, read_super, table_of};
-use nesc_base::{Block, FileNo, Geometry};
+use nesc_base::{Block, FileNo, Geometry, MOST_FILES};
 use std::alloc::{AllocError, Global};
 
 /// What an image says, part by part.
@@ -27,12 +27,14 @@ pub struct Opened {
     pub owners: Vec<Option<(FileNo, u32)>>,
 }
 
-/// Opens an image whose blocks are all at hand, step by step and slowly: other openings are compared with it.
+/// Opens an image whose blocks are all at hand, step by step and slowly. The program opens images from a disk; this is
+/// the definition of an opening as a program, for whoever has an image in memory and wants to judge it.
 ///
 /// `Image` comes exactly where the image opens as nothing, for the first cause. It never answers `Disk`.
 pub fn open_blocks(alloc: Global, image: &[Block]) -> Result<Opened, OpenFault>
     requires { length image.now ≤ 4294967295 }
-    ensures says { IfOk result (λ opened. Says image.now opened.geometry opened.laid.items opened.table opened.owners.items) }
+    ensures says { IfOk result (λ opened.
+        Says image.now opened.geometry opened.laid.items opened.table opened.owners.items) }
     ensures refused { (fault : ImageFault) → IsErrOf result (Image fault) → IsRefused image.now fault }
     ensures disk { result ≢ Err (Disk _) }
 {
@@ -70,7 +72,8 @@ fn divide(image: &[Block]) -> Result<Geometry, ImageFault>
     Ok(geometry)
 }
 
-/// The owners of all data blocks, map block by map block, or the first map block that is none for the files of the table.
+/// The owners of all data blocks, map block by map block, or the first map block that is none for the files of the
+/// table.
 fn read_owners(
     alloc: Global,
     laid: &[Block],
@@ -81,7 +84,8 @@ fn read_owners(
     requires enough { total geometry ≤ length laid.now }
     requires table { AreEntries table.now }
     ensures owned { IfOk result (λ owners. IsMap geometry laid.now table.now owners.items) }
-    ensures refused { (image : List Block) → IsDivided image geometry → Lays geometry image laid.now → IsTable (block_at laid.now (table_at geometry)) table.now
+    ensures refused { (image : List Block) → IsDivided image geometry → Lays geometry image laid.now
+        → IsTable (block_at laid.now (table_at geometry)) table.now
         → (fault : ImageFault) → IsErrOf result (Image fault) → IsRefused image fault }
     ensures disk { result ≢ Err (Disk _) }
 {
@@ -99,12 +103,12 @@ fn read_owners(
 }
 
 /// The lengths in blocks of the files of a table, by their places in it.
-pub fn lengths_of(table: &Table) -> [Option<u32>; 32]
+pub fn lengths_of(table: &Table) -> [Option<u32>; MOST_FILES as usize]
     requires { AreEntries table.now }
     ensures { result ≡ lengths_of table.now }
 {
-    let mut lengths = [None; 32];
-    for e in 0..32 {
+    let mut lengths = [None; MOST_FILES as usize];
+    for e in 0..u32::from(MOST_FILES) {
         lengths[e as usize] = table.get(e).map(|entry| entry.length);
     }
     lengths
@@ -115,7 +119,7 @@ pub fn push_owners(
     owners: &mut Vec<Option<(FileNo, u32)>>,
     found: &Owners,
 ) -> Result<(), AllocError>
-    requires { length found.now ≡ 128 }
+    requires { length found.now ≡ block_owners }
     ensures { OnOk result (owners.new.items ≡ owners.old.items ++ found.now) }
 {
     for k in 0..Geometry::BLOCK_OWNERS {

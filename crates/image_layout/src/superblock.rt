@@ -1,13 +1,22 @@
 ghost use Rattle.std.specs.Prelude.{◌≡◌, ◌↔◌, IsTrue, MatchOption, drop};
 ghost use Rattle.byteorder.specs.Endian.{little_number};
 ghost use Rattle.nesc_base.specs.Geometry.{IsGeometry};
-ghost use Rattle.image_layout.specs.Super.{IsSuperblock};
+ghost use Rattle.image_layout.specs.Super.{IsSuperblock, blocks_at, slack_at, version_at};
 
 use nesc_base::{Block, Geometry};
 use slot_layout::{number_in, put_bytes, put_number};
 
 /// The version of the layout.
 const VERSION: u32 = 1;
+
+// At which bytes of the superblock the numbers stand.
+const VERSION_AT: usize = 8;
+
+const BLOCKS_AT: usize = 12;
+
+const SLACK_AT: usize = 16;
+
+const TOTAL_AT: usize = 20;
 
 /// How the image is divided whose superblock this is, or `None` where the block is no superblock.
 pub fn read_super(block: &Block) -> Option<Geometry>
@@ -29,23 +38,23 @@ pub fn write_super(geometry: Geometry) -> Block
 {
     let mut block = Block::zero();
     put_bytes(&mut block, 0, b"NESCHOST");
-    put_number(&mut block, 8, geometry.version);
-    put_number(&mut block, 12, geometry.blocks);
-    put_number(&mut block, 16, geometry.slack);
-    put_number(&mut block, 20, geometry.total());
+    put_number(&mut block, VERSION_AT, geometry.version);
+    put_number(&mut block, BLOCKS_AT, geometry.blocks);
+    put_number(&mut block, SLACK_AT, geometry.slack);
+    put_number(&mut block, TOTAL_AT, geometry.total());
     block
 }
 
 /// The sizes that stand where those of a superblock do.
 fn sizes_of(block: &Block) -> Geometry
-    ensures version { result.version ≡ little_number 4 (drop 8 block.now.0) }
-    ensures blocks { result.blocks ≡ little_number 4 (drop 12 block.now.0) }
-    ensures slack { result.slack ≡ little_number 4 (drop 16 block.now.0) }
+    ensures version { result.version ≡ little_number 4 (drop version_at block.now.0) }
+    ensures blocks { result.blocks ≡ little_number 4 (drop blocks_at block.now.0) }
+    ensures slack { result.slack ≡ little_number 4 (drop slack_at block.now.0) }
 {
     Geometry {
-        version: number_in(block, 8),
-        blocks: number_in(block, 12),
-        slack: number_in(block, 16),
+        version: number_in(block, VERSION_AT),
+        blocks: number_in(block, BLOCKS_AT),
+        slack: number_in(block, SLACK_AT),
     }
 }
 

@@ -1,11 +1,13 @@
-ghost use Rattle.std.specs.Prelude.{◌≡◌, ◌≢◌, ◌<◌, IfSome, IsTrue, MatchOption, None, Option, Some, length, replicate, slice_get, slice_set, ℕ};
+ghost use Rattle.std.specs.Prelude.{◌≡◌, ◌≢◌, ◌<◌, IfSome, IsTrue, MatchOption, None, Option};
+ghost use Rattle.std.specs.Prelude.{Some, length, replicate, slice_get, slice_set, ℕ};
 ghost use Rattle.std.specs.Bool.{OnFalse, OnTrue};
+ghost use Rattle.nesc_base.specs.Files.{most_files};
 ghost use Rattle.nesc_base.specs.Name.{is_name};
 ghost use Rattle.image_layout.specs.declared.table.TableEntry.{TableEntry};
-ghost use Rattle.image_layout.specs.Table.{AreEntries, Fits, IsTable, entry_bytes};
+ghost use Rattle.image_layout.specs.Table.{AreEntries, Fits, IsTable, entry_bytes, entry_size};
 
 use byteorder::{ByteOrder, LittleEndian};
-use nesc_base::{BLOCK_BYTES, Block, LONGEST_FILE, Name};
+use nesc_base::{BLOCK_BYTES, Block, LONGEST_FILE, MOST_FILES, Name};
 use std::marker::Model;
 
 /// A file as the table has it: its name, and its length in blocks, 0 to 1,048,576.
@@ -15,38 +17,42 @@ pub struct TableEntry {
     pub length: u32,
 }
 
+// How many entries a table has: one for each file that there may be.
+const ENTRIES: usize = MOST_FILES as usize;
+
 /// The table of files: 32 entries, entry `e` that of file `e + 1`.
 #[derive(Debug, Drop)]
 pub struct Table {
-    entries: [Option<TableEntry>; 32],
+    entries: [Option<TableEntry>; ENTRIES],
 }
 
 impl Model for Table {
     ghost use Rattle.std.specs.Prelude.{◌≡◌, List, Option, length};
+    ghost use Rattle.nesc_base.specs.Files.{most_files};
     ghost use Rattle.image_layout.specs.declared.table.TableEntry.{TableEntry};
 
     ghost Value = { List (Option TableEntry) };
 
     ghost view = { λ t. t.entries };
 
-    ghost invariant = { λ t. length t.entries ≡ 32 };
+    ghost invariant = { λ t. length t.entries ≡ most_files };
 }
 
 impl Table {
     /// The table of no files.
     pub fn empty() -> Table
-        ensures { result ≡ replicate 32 None }
+        ensures { result ≡ replicate most_files None }
     {
         Table {
-            entries: [None; 32],
+            entries: [None; ENTRIES],
         }
     }
 
     /// The entry at a place, counted from 0.
     pub fn get(&self, e: u32) -> Option<TableEntry>
-        requires { e < 32 }
+        requires { e < most_files }
         ensures entry { slice_get self.now e ≡ Some result }
-        ensures all { length self.now ≡ 32 }
+        ensures all { length self.now ≡ most_files }
     {
         self.entries[e as usize]
     }
@@ -54,14 +60,14 @@ impl Table {
     /// All entries, that of file 1 first.
     pub fn entries(&self) -> &[Option<TableEntry>]
         ensures entries { result.now ≡ self.now }
-        ensures all { length self.now ≡ 32 }
+        ensures all { length self.now ≡ most_files }
     {
         &self.entries
     }
 
     /// Puts an entry at a place, counted from 0.
     pub fn set(&mut self, e: u32, entry: Option<TableEntry>)
-        requires { e < 32 }
+        requires { e < most_files }
         ensures { self.new ≡ slice_set self.old e entry }
     {
         self.entries[e as usize] = entry;
@@ -88,7 +94,7 @@ fn entry_bytes(entry: &Option<TableEntry>) -> [u8; ENTRY_BYTES]
 
 // The one entry that these bytes may be the spelling of.
 fn candidate(bytes: &[u8]) -> Option<TableEntry>
-    requires { length bytes.now ≡ 32 }
+    requires { length bytes.now ≡ entry_size }
     ensures name { IfSome result (λ entry. IsTrue (is_name entry.name)) }
     ensures only { (entry : Option TableEntry) → Fits entry → bytes.now ≡ entry_bytes entry → result ≡ entry }
 {
@@ -104,8 +110,9 @@ fn candidate(bytes: &[u8]) -> Option<TableEntry>
 
 // The entry whose spelling these bytes are, or `None` where they are no entry's.
 fn entry_of(bytes: &[u8]) -> Option<Option<TableEntry>>
-    requires { length bytes.now ≡ 32 }
-    ensures { MatchOption result ((entry : Option TableEntry) → Fits entry → bytes.now ≢ entry_bytes entry) (λ entry. Fits entry × (bytes.now ≡ entry_bytes entry)) }
+    requires { length bytes.now ≡ entry_size }
+    ensures { MatchOption result ((entry : Option TableEntry) → Fits entry → bytes.now ≢ entry_bytes entry)
+        (λ entry. Fits entry × (bytes.now ≡ entry_bytes entry)) }
 {
     let entry = candidate(bytes);
     if entry.is_some_and(|entry| entry.length > LONGEST_FILE)
@@ -118,8 +125,10 @@ fn entry_of(bytes: &[u8]) -> Option<Option<TableEntry>>
 
 // Whether one of the entries has this name.
 fn has_name(entries: &[Option<TableEntry>], name: &[u8]) -> bool
-    ensures found { OnTrue result ((k : ℕ) × (entry : TableEntry) × (slice_get entries.now k ≡ Some (Some entry)) × (entry.name ≡ name.now)) }
-    ensures none { OnFalse result ((k : ℕ) (entry : TableEntry) → slice_get entries.now k ≡ Some (Some entry) → entry.name ≢ name.now) }
+    ensures found { OnTrue result
+        ((k : ℕ) × (entry : TableEntry) × (slice_get entries.now k ≡ Some (Some entry)) × (entry.name ≡ name.now)) }
+    ensures none { OnFalse result
+        ((k : ℕ) (entry : TableEntry) → slice_get entries.now k ≡ Some (Some entry) → entry.name ≢ name.now) }
 {
     for entry in entries {
         if let Some(entry) = entry
@@ -133,8 +142,10 @@ fn has_name(entries: &[Option<TableEntry>], name: &[u8]) -> bool
 
 // Whether no two entries have one name.
 fn are_apart(entries: &[Option<TableEntry>]) -> bool
-    ensures apart { OnTrue result ((i j : ℕ) (one other : TableEntry) → slice_get entries.now i ≡ Some (Some one) → slice_get entries.now j ≡ Some (Some other) → one.name ≡ other.name → i ≡ j) }
-    ensures same { OnFalse result (¬ ((i j : ℕ) (one other : TableEntry) → slice_get entries.now i ≡ Some (Some one) → slice_get entries.now j ≡ Some (Some other) → one.name ≡ other.name → i ≡ j)) }
+    ensures apart { OnTrue result ((i j : ℕ) (one other : TableEntry) → slice_get entries.now i ≡ Some (Some one)
+        → slice_get entries.now j ≡ Some (Some other) → one.name ≡ other.name → i ≡ j) }
+    ensures same { OnFalse result (¬ ((i j : ℕ) (one other : TableEntry) → slice_get entries.now i ≡ Some (Some one)
+        → slice_get entries.now j ≡ Some (Some other) → one.name ≡ other.name → i ≡ j)) }
 {
     for (e, entry) in entries.iter().enumerate() {
         if let Some(entry) = entry
@@ -150,8 +161,8 @@ fn are_apart(entries: &[Option<TableEntry>]) -> bool
 pub fn table_of(block: &Block) -> Option<Table>
     ensures { MatchOption result (¬ ((entries : _) × IsTable block.now entries)) (IsTable block.now) }
 {
-    let mut entries = [None; 32];
-    for e in 0..32 {
+    let mut entries = [None; ENTRIES];
+    for e in 0..ENTRIES {
         entries[e] = entry_of(&block.0[ENTRY_BYTES * e..ENTRY_BYTES * (e + 1)])?;
     }
     if !are_apart(&entries) {

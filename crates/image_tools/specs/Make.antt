@@ -20,7 +20,8 @@ gates geometry = slot_at geometry 1 ∷ slot_at geometry 2 ∷ slot_at geometry 
 -- the blocks that have to be zeros: the four gates, the table, the map, and the last data block, so that the image is
 -- as long as it says
 abbrev pub cleared : Geometry → List ℕ
-cleared geometry = gates geometry ++ table_at geometry ∷ range_with_len (map_at geometry) (map_blocks geometry) ++ (total geometry - 1) ∷ []
+cleared geometry = gates geometry ++ table_at geometry ∷ range_with_len (map_at geometry) (map_blocks geometry)
+    ++ (total geometry - 1) ∷ []
 
 -- the image with zeros at these places
 abbrev pub cleared_at : List ℕ → List Block → List Block
@@ -41,7 +42,8 @@ StartsAs old image = ¬ old.unsynced 0 → block_at image 0 ≡ block_at old.con
 
 -- while an image is made, a stop leaves one that starts as before, or that opens if it has the new superblock
 abbrev pub OpensWhereMade : Geometry → Known → List Block → Type 0
-OpensWhereMade geometry old image = StartsAs old image ⊎ (IsSuperblock (block_at image 0) geometry → OpensAsNew geometry image)
+OpensWhereMade geometry old image =
+    StartsAs old image ⊎ (IsSuperblock (block_at image 0) geometry → OpensAsNew geometry image)
 
 -- a block behind block 0
 abbrev pub IsBehind : ℕ → Type 0

@@ -33,14 +33,16 @@ impl From<DiskFault> for MakeFault {
 pub fn make<D: Disk>(disk: &mut D, geometry: Geometry) -> Result<u32, MakeFault>
     requires { IsGeometry geometry }
     ensures total { IfOk result (λ blocks. blocks ≡ total geometry) }
-    ensures made { (D.known disk.old).tells ≡ true → OnOk result ((D.known disk.new).contents ≡ made geometry (D.known disk.old).contents) }
+    ensures made { (D.known disk.old).tells ≡ true
+        → OnOk result ((D.known disk.new).contents ≡ made geometry (D.known disk.old).contents) }
 
     // A stop after it leaves this image alone, and it opens with no files.
     ensures settled { (D.known disk.old).tells ≡ true → OnOk result (IsSettled (D.known disk.new)) }
     ensures opens { (D.known disk.old).tells ≡ true → OnOk result (OpensAsNew geometry (D.known disk.new).contents) }
 
     // So does one that has the new superblock after a stop on the way, unless it starts as before.
-    ensures any_moment { LeavesSince (λ _. OpensWhereMade geometry (D.known disk.old)) (D.known disk.old) (D.known disk.new) }
+    ensures any_moment { LeavesSince
+        (λ _. OpensWhereMade geometry (D.known disk.old)) (D.known disk.old) (D.known disk.new) }
 
     ensures small { (D.known disk.old).size < total geometry → IsErrOf result (BadSize (D.known disk.old).size) }
     ensures only { (block : ℕ) → IsErrOf result (BadSize block) → (D.known disk.old).size < total geometry }

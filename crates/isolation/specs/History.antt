@@ -1,6 +1,7 @@
--- The history of one function and one file: what a run did to them, and what it told of them. A name is looked up in the files
--- of the run to see which file it means; the machine of one file sees these events and nothing else.
-use Rattle.std.specs.Prelude.{ℕ, ◌==◌, ◌&&◌, if◌then◌else◌, Bool, true, false, List, [], ◌∷◌, ◌++◌, length, filter, map, Option, Some, None}
+-- The history of one function and one file: what a run did to them, and what it told of them. A name is looked up in
+-- the files of the run to see which file it means; the machine of one file sees these events and nothing else.
+use Rattle.std.specs.Prelude.{ℕ, ◌==◌, ◌&&◌, if◌then◌else◌, Bool, true, false, List}
+use Rattle.std.specs.Prelude.{[], ◌∷◌, ◌++◌, length, filter, map, Option, Some, None}
 use Rattle.std.specs.FinMap.{get}
 use Rattle.std.specs.List.{flat_map, list_any}
 use Rattle.std.specs.Option.{option_map_or}
@@ -13,7 +14,8 @@ use Rattle.nesc_requests.specs.declared.event.Event.{Event}
 use Rattle.nesc_requests.specs.declared.event.Event.TheVariants.{Handle, Host, Restart, Submit, Tick}
 use Rattle.nesc_requests.specs.declared.host.HostAnswer.TheVariants as said
 use Rattle.nesc_requests.specs.declared.host.HostCommand.{HostCommand}
-use Rattle.nesc_requests.specs.declared.host.HostCommand.TheVariants.{Attach, Create, Delete, Detach, Get, Map, Put, Resize}
+use Rattle.nesc_requests.specs.declared.host.HostCommand.TheVariants.{Attach, Create, Delete}
+use Rattle.nesc_requests.specs.declared.host.HostCommand.TheVariants.{Detach, Get, Map, Put, Resize}
 use Rattle.nesc_requests.specs.declared.request.Reply.{Reply}
 use Rattle.nesc_requests.specs.declared.request.Request.{Request}
 use Rattle.file_model.specs.Files.{Change, create, delete, hold, holding, put, puts_from, resize, unheld}
@@ -31,10 +33,10 @@ use Rattle.plain_machine.specs.declared.outcome.Outcome.{Outcome}
 
 -- Events
 
--- What happens to one function and one file. While the function has the file: a request of it is queued, a tick takes it, with
--- this main line and the clock of a flush, and a read of the disk that failed or did not; it is handled. The host, or a function
--- that has the file at the time and is another, changes the file; the host reads it. Everything is kept, at some clock, or starts
--- again.
+-- What happens to one function and one file. While the function has the file: a request of it is queued, a tick takes
+-- it, with this main line and the clock of a flush, and a read of the disk that failed or did not; it is handled. The
+-- host, or a function that has the file at the time and is another, changes the file; the host reads it. Everything is
+-- kept, at some clock, or starts again.
 pub data OwnEvent : Type 0 where
   changed : Change → OwnEvent
   got : (v n : ℕ) (failed : Bool) → OwnEvent
@@ -91,8 +93,8 @@ taken_by (happened.Missed f miss fetched) = Some f
 taken_by (happened.Flushed f) = Some f
 taken_by answer = None
 
--- What is done for a function that has the file: this is told of it where it is this function, and of any other what it changes of
--- the file. What is done for one that does not have the file is not told, and changes nothing of it.
+-- What is done for a function that has the file: this is told of it where it is this function, and of any other what it
+-- changes of the file. What is done for one that does not have the file is not told, and changes nothing of it.
 abbrev pub own_by : ℕ → ℕ → List Function → ℕ → List OwnEvent → List Change → List OwnEvent
 own_by f n functions g told changes = if has functions g n then (if g == f then told else changes_of n changes) else []
 
@@ -100,9 +102,11 @@ own_by f n functions g told changes = if has functions g n then (if g == f then 
 abbrev pub own_of_turn : ℕ → ℕ → State → Option FnNo → Outcome → List Change → List OwnEvent
 own_of_turn f n old None outcome changes = []
 own_of_turn f n old (Some g) outcome changes =
-    own_by f n old.functions g.0 (ticked (bare outcome.answer) outcome.after (is_failed_read outcome.reply) ∷ []) changes
+    own_by f n old.functions g.0
+    (ticked (bare outcome.answer) outcome.after (is_failed_read outcome.reply) ∷ []) changes
 
--- What a command that is done changes of this file n, whose name it names. Blocks that are not held are held before they are put.
+-- What a command that is done changes of this file n, whose name it names. Blocks that are not held are held before
+-- they are put.
 abbrev pub host_changes : ℕ → File → HostCommand → List Change
 host_changes n file (Delete name) = delete n ∷ []
 host_changes n file (Resize name len) = resize n len ∷ []
@@ -118,18 +122,24 @@ if_called files n name events = if is_called files n name then events else []
 abbrev pub own_of_change : ℕ → Files → List ℕ → HostCommand → List OwnEvent
 own_of_change n files name command = if_called files n name (map changed (host_changes n (file_at files n) command))
 
--- Of a command of the host: what it changes of the file, that it reads it, and that it gives it to the function or takes it. Of
--- the machine's own list of changes only this is told, that the file made is the one of this number.
+-- Of a command of the host: what it changes of the file, that it reads it, and that it gives it to the function or
+-- takes it. Of the machine's own list of changes only this is told, that the file made is the one of this number.
 abbrev pub own_of_host : ℕ → ℕ → State → HostCommand → Answer → List Change → List OwnEvent
-own_of_host f n old (Create name len) (happened.Host said.Ok) changes = if list_any (is_of n) changes then changed (create n name len) ∷ [] else []
+own_of_host f n old (Create name len) (happened.Host said.Ok) changes =
+    if list_any (is_of n) changes then changed (create n name len) ∷ [] else []
 own_of_host f n old (Delete name) (happened.Host said.Ok) changes = own_of_change n old.now name (Delete name)
 own_of_host f n old (Resize name len) (happened.Host said.Ok) changes = own_of_change n old.now name (Resize name len)
-own_of_host f n old (Put name v blocks) (happened.Host said.Ok) changes = own_of_change n old.now name (Put name v blocks)
+own_of_host f n old (Put name v blocks) (happened.Host said.Ok) changes =
+    own_of_change n old.now name (Put name v blocks)
 own_of_host f n old (Map name v count) (happened.Host said.Ok) changes = own_of_change n old.now name (Map name v count)
-own_of_host f n old (Get name v into) (happened.Host (said.Got blocks)) changes = if_called old.now n name (got v (length into) false ∷ [])
-own_of_host f n old (Get name v into) (happened.Host said.Media) changes = if_called old.now n name (got v (length into) true ∷ [])
-own_of_host f n old (Attach g name) (happened.Host said.Ok) changes = if g.0 == f then if_called old.now n name (attached ∷ []) else []
-own_of_host f n old (Detach g) (happened.Host said.Ok) changes = if g.0 == f && has old.functions f n then detached ∷ [] else []
+own_of_host f n old (Get name v into) (happened.Host (said.Got blocks)) changes =
+    if_called old.now n name (got v (length into) false ∷ [])
+own_of_host f n old (Get name v into) (happened.Host said.Media) changes =
+    if_called old.now n name (got v (length into) true ∷ [])
+own_of_host f n old (Attach g name) (happened.Host said.Ok) changes =
+    if g.0 == f then if_called old.now n name (attached ∷ []) else []
+own_of_host f n old (Detach g) (happened.Host said.Ok) changes =
+    if g.0 == f && has old.functions f n then detached ∷ [] else []
 own_of_host f n old command answer changes = []
 
 -- a request that was queued, under its number
@@ -144,7 +154,8 @@ own_of_handled answer = []
 
 -- Of one event. What the function itself does to the file is not told: it follows from what it asked for.
 abbrev pub own_of_event : ℕ → ℕ → State → Event → Outcome → List Change → List OwnEvent
-own_of_event f n old (Submit g request) outcome changes = if g.0 == f && has old.functions f n then own_of_queued request outcome.answer else []
+own_of_event f n old (Submit g request) outcome changes =
+    if g.0 == f && has old.functions f n then own_of_queued request outcome.answer else []
 own_of_event f n old Tick outcome changes = own_of_turn f n old (taken_by outcome.answer) outcome changes
 own_of_event f n old (Host command) outcome changes = own_of_host f n old command outcome.answer changes
 own_of_event f n old (Handle g) outcome changes = own_by f n old.functions g.0 (own_of_handled outcome.answer) changes
@@ -158,7 +169,8 @@ own_of_commit (Some clock) = kept ∷ []
 
 -- of one step, and of all steps of a run in their order
 abbrev pub own_of : ℕ → ℕ → StepTaken → List OwnEvent
-own_of f n step = own_of_commit step.outcome.before ++ own_of_event f n step.old step.event step.outcome step.changes ++ own_of_commit step.outcome.after
+own_of f n step = own_of_commit step.outcome.before ++ own_of_event f n step.old step.event step.outcome step.changes
+    ++ own_of_commit step.outcome.after
 
 abbrev pub own_in : ℕ → ℕ → List StepTaken → List OwnEvent
 own_in f n = flat_map (own_of f n)
@@ -168,11 +180,13 @@ own_in f n = flat_map (own_of f n)
 -- the reply to the function, where it has the file
 abbrev pub replies_of : ℕ → ℕ → State → Option Reply → List OwnLine
 replies_of f n old None = []
-replies_of f n old (Some reply) = if reply.f.0 == f && has old.functions f n then replied (first_of reply.request) (reply_line_of reply) ∷ [] else []
+replies_of f n old (Some reply) =
+    if reply.f.0 == f && has old.functions f n then replied (first_of reply.request) (reply_line_of reply) ∷ [] else []
 
 -- the blocks that the host reads of the file
 abbrev pub data_of : ℕ → State → Event → Answer → List OwnLine
-data_of n old (Host (Get name v into)) (happened.Host (said.Got blocks)) = if is_called old.now n name then data_from v blocks ∷ [] else []
+data_of n old (Host (Get name v into)) (happened.Host (said.Got blocks)) =
+    if is_called old.now n name then data_from v blocks ∷ [] else []
 data_of n old event answer = []
 
 abbrev pub lines_of : ℕ → ℕ → StepTaken → List OwnLine

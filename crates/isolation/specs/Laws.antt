@@ -17,29 +17,34 @@ use Rattle.machine_laws.specs.Laws.{HasFileSets}
 use Rattle.isolation.specs.History.{OwnEvent, OwnLine, asked, changed, data_from, lines_in, own_in, replied}
 use Rattle.isolation.specs.Solo.{Solo, SoloRun, opened, solo_in}
 
--- Whatever run there is, from any files: what it tells the function while that has the file, and the host of the file, is what
--- the machine of this file and this function tells at their own events, and that machine stays what the plain machine has of them.
+-- Whatever run there is, from any files: what it tells the function while that has the file, and the host of the file,
+-- is what the machine of this file and this function tells at their own events, and that machine stays what the plain
+-- machine has of them.
 abbrev pub IsToldAlone : FnNo → ℕ → Type 0
 IsToldAlone f n =
-    (setting : Setting) (old : State) (steps : List StepTaken) (new : State) → HasFileSets old → Run setting old steps new
+    (setting : Setting) (old : State) (steps : List StepTaken) (new : State) → HasFileSets old
+    → Run setting old steps new
     → SoloRun f n (solo_in f n old) (own_in f.0 n steps) (lines_in f.0 n steps) (solo_in f n new)
 
 -- That machine has no choice.
 abbrev pub HasOneSoloRun : FnNo → ℕ → Type 0
 HasOneSoloRun f n =
-    (old : Solo) (events : List OwnEvent) (here there : List OwnLine) (first second : Solo) → SoloRun f n old events here first
+    (old : Solo) (events : List OwnEvent) (here there : List OwnLine) (first second : Solo) →
+    SoloRun f n old events here first
     → SoloRun f n old events there second → (here ≡ there) × (first ≡ second)
 
 -- So two runs, on other files and beside other functions too, tell the same where the own history is the same.
 abbrev pub SeesNoOther : FnNo → ℕ → Type 0
 SeesNoOther f n =
-    (setting other_setting : Setting) (one other : State) (steps others : List StepTaken) (first second : State) → HasFileSets one → HasFileSets other
+    (setting other_setting : Setting) (one other : State) (steps others : List StepTaken) (first second : State) →
+    HasFileSets one → HasFileSets other
     → Run setting one steps first → Run other_setting other others second → solo_in f n one ≡ solo_in f n other
     → own_in f.0 n steps ≡ own_in f.0 n others → lines_in f.0 n steps ≡ lines_in f.0 n others
 
 -- No foreign bytes
 
--- the event brings this block for block v of the file: the block is put there, or a request is asked that writes it there
+-- the event brings this block for block v of the file: the block is put there, or a request is asked that writes it
+-- there
 abbrev pub BringsIn : ℕ → Block → Request → Type 0
 BringsIn v block (Write first from) = (k : ℕ) × (v ≡ first + k) × (slice_get from k ≡ Some block)
 BringsIn v block request = ⊥
@@ -62,7 +67,8 @@ abbrev pub IsOwn : Option File → List OwnEvent → ℕ → Block → Type 0
 IsOwn file events v block = (block ≡ zero_block) ⊎ (WasHeld file v block ⊎ IsBrought v block events)
 
 abbrev pub AreOwn : Option File → List OwnEvent → ℕ → List Block → Type 0
-AreOwn file events v blocks = (k : ℕ) (block : Block) → slice_get blocks k ≡ Some block → IsOwn file events (v + k) block
+AreOwn file events v blocks = (k : ℕ) (block : Block) → slice_get blocks k ≡ Some block
+    → IsOwn file events (v + k) block
 
 abbrev pub TellsOwnBlocks : Option File → List OwnEvent → ℕ → EndTold → Type 0
 TellsOwnBlocks file events v (ok done blocks) = AreOwn file events v blocks
@@ -75,5 +81,6 @@ TellsOwn file events (data_from v blocks) = AreOwn file events v blocks
 -- Each block that is told is the file's own.
 abbrev pub ShowsNoForeignBytes : FnNo → ℕ → Type 0
 ShowsNoForeignBytes f n =
-    (file : Option File) (events : List OwnEvent) (lines : List OwnLine) (new : Solo) → SoloRun f n (opened file) events lines new
+    (file : Option File) (events : List OwnEvent) (lines : List OwnLine) (new : Solo) →
+    SoloRun f n (opened file) events lines new
     → AllByRecursion (TellsOwn file events) lines

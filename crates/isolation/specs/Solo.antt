@@ -1,5 +1,6 @@
 -- A machine of one file and one function. It has no data blocks to give, no other file and no other function.
-use Rattle.std.specs.Prelude.{◌≡◌, ℕ, ◌==◌, Bool, if◌then◌else◌, List, [], ◌∷◌, ◌++◌, Option, Some, None, option_map, unwrap_or, ◌<◌, nat_eq, IsSome, IsSomeAnd}
+use Rattle.std.specs.Prelude.{◌≡◌, ℕ, ◌==◌, Bool, if◌then◌else◌, List, [], ◌∷◌, ◌++◌, Option}
+use Rattle.std.specs.Prelude.{Some, None, option_map, unwrap_or, ◌<◌, nat_eq, IsSome, IsSomeAnd}
 use Rattle.std.specs.FinMap.{empty, get}
 use Rattle.std.specs.List.{AllByRecursion, IsDistinct}
 use Rattle.nesc_base.specs.declared.numbers.FnNo.{FnNo}
@@ -16,7 +17,8 @@ use Rattle.plain_machine.specs.Submissions.{with_request}
 use Rattle.plain_machine.specs.Ticks.{IsTurn, Turn, TurnsTo}
 use Rattle.plain_machine.specs.declared.outcome.Answer.{Answer}
 use Rattle.plain_machine.specs.declared.outcome.Handled.{Handled}
-use Rattle.isolation.specs.History.{OwnEvent, OwnLine, asked, attached, bare, changed, data_from, detached, got, handled, kept, replied, restarted, ticked}
+use Rattle.isolation.specs.History.{OwnEvent, OwnLine, asked, attached, bare, changed, data_from}
+use Rattle.isolation.specs.History.{detached, got, handled, kept, replied, restarted, ticked}
 
 -- One file
 
@@ -24,7 +26,8 @@ use Rattle.isolation.specs.History.{OwnEvent, OwnLine, asked, attached, bare, ch
 abbrev pub file_after : Change → Option File → Option File
 file_after (create n name length) file = Some (record { name = name; length = length; body = empty })
 file_after (delete n) file = None
-file_after (resize n length) file = option_map (λ (old : File). record old { length = length; body = below length old.body }) file
+file_after (resize n length) file =
+    option_map (λ (old : File). record old { length = length; body = below length old.body }) file
 file_after (hold n blocks) file = option_map (λ (old : File). record old { body = with_zeros old.body blocks }) file
 file_after (put n v block) file = option_map (λ (old : File). with_block old v block) file
 
@@ -68,7 +71,8 @@ told_by None = []
 told_by (Some reply) = replied (first_of reply.request) (reply_line_of reply) ∷ []
 
 -- A tick takes the function, with this main line but for the nodes that were fetched.
-pub record TicksAlone (f : FnNo) (old : Solo) (line : Answer) (clock : Option ℕ) (failed : Bool) (lines : List OwnLine) (new : Solo) : Type 0 where
+pub record TicksAlone (f : FnNo) (old : Solo) (line : Answer) (clock : Option ℕ) (failed : Bool) (lines : List OwnLine)
+    (new : Solo) : Type 0 where
   pub desk : Attached
   pub on : old.desk ≡ Some desk
   pub turn : Turn
@@ -100,21 +104,25 @@ data_told solo v n failed = if failed then [] else data_from v (read_from (file_
 
 -- What the machine of file n and function f does at an event, and what it tells.
 abbrev pub SoloStep : FnNo → ℕ → Solo → OwnEvent → List OwnLine → Solo → Type 0
-SoloStep f n old (changed change) lines new = (lines ≡ []) × IsPossible change old.now × (new ≡ record old { now = file_after change old.now })
+SoloStep f n old (changed change) lines new =
+    (lines ≡ []) × IsPossible change old.now × (new ≡ record old { now = file_after change old.now })
 SoloStep f n old (got v count failed) lines new = (lines ≡ data_told old v count failed) × (new ≡ old)
 SoloStep f n old attached lines new = (lines ≡ []) × (new ≡ record old { desk = Some (fresh n) })
 SoloStep f n old detached lines new = (lines ≡ []) × (new ≡ record old { desk = None })
-SoloStep f n old (asked id request) lines new = (lines ≡ []) × (new ≡ record old { desk = option_map (λ (desk : Attached). with_request desk id request) old.desk })
+SoloStep f n old (asked id request) lines new =
+    (lines ≡ []) × (new ≡ record old { desk = option_map (λ (desk : Attached). with_request desk id request) old.desk })
 SoloStep f n old (ticked line clock failed) lines new = TicksAlone f old line clock failed lines new
 SoloStep f n old (handled did) lines new = HandlesAlone f old did lines new
 SoloStep f n old kept lines new = (lines ≡ []) × (new ≡ record old { last_kept = old.now })
-SoloStep f n old restarted lines new = (lines ≡ []) × (new ≡ record { now = old.last_kept; last_kept = old.last_kept; desk = None })
+SoloStep f n old restarted lines new =
+    (lines ≡ []) × (new ≡ record { now = old.last_kept; last_kept = old.last_kept; desk = None })
 
 -- one event after another, and all that is told
 abbrev pub SoloRun : FnNo → ℕ → Solo → List OwnEvent → List OwnLine → Solo → Type 0
 SoloRun f n old [] lines new = (lines ≡ []) × (new ≡ old)
 SoloRun f n old (event ∷ events) lines new =
-    (next : Solo) × (told : List OwnLine) × (more : List OwnLine) × SoloStep f n old event told next × SoloRun f n next events more new × (lines ≡ told ++ more)
+    (next : Solo) × (told : List OwnLine) × (more : List OwnLine) × SoloStep f n old event told next
+    × SoloRun f n next events more new × (lines ≡ told ++ more)
 
 -- What the plain machine has of one file and one function
 
@@ -124,7 +132,8 @@ desk_of n None = None
 desk_of n (Some desk) = if desk.file == n then Some desk else None
 
 abbrev pub solo_in : FnNo → ℕ → State → Solo
-solo_in f n state = record { now = get state.now n; last_kept = get state.kept n; desk = desk_of n (attached_of state.functions f.0) }
+solo_in f n state =
+    record { now = get state.now n; last_kept = get state.kept n; desk = desk_of n (attached_of state.functions f.0) }
 
 -- that of a file as it was opened: it is kept, and the function does not have it
 abbrev pub opened : Option File → Solo

@@ -32,34 +32,39 @@ pub record HasFileSets (state : State) : Type 0 where
 -- an event leaves files as they may be, whatever the state is that it comes to
 abbrev pub KeepsSets : Event → Type 0
 KeepsSets event =
-    MayCome event → (setting : Setting) (old : State) (changes : List Change) (outcome : Outcome) (new : State) → HasFileSets old
+    MayCome event
+    → (setting : Setting) (old : State) (changes : List Change) (outcome : Outcome) (new : State) → HasFileSets old
     → Step setting old event changes outcome new → HasFileSets new
 
 -- an event leaves as many functions, and for each of them that waits a request waits
 abbrev pub KeepsFunctions : Event → Type 0
 KeepsFunctions event =
     (setting : Setting) (old : State) (changes : List Change) (outcome : Outcome) (new : State)
-    → Step setting old event changes outcome new → (length new.functions ≡ length old.functions) × (AreSound old.functions → AreSound new.functions)
+    → Step setting old event changes outcome new
+    → (length new.functions ≡ length old.functions) × (AreSound old.functions → AreSound new.functions)
 
--- in whatever state with files as they may be, the changes of an event stage as many blocks as its answer says, each of them
--- once
+-- in whatever state with files as they may be, the changes of an event stage as many blocks as its answer says, each of
+-- them once
 abbrev pub CountsStaged : Event → Type 0
 CountsStaged event =
     (setting : Setting) (old : State) (changes : List Change) (outcome : Outcome) (new : State)
-    → IsFileSet old.now → Step setting old event changes outcome new → AreStaged old event outcome.answer (staged changes)
+    → IsFileSet old.now → Step setting old event changes outcome new
+    → AreStaged old event outcome.answer (staged changes)
 
--- In whatever state with files as they may be, an event makes one list of changes, comes to one outcome and leaves one state,
--- where what is given to the machine is the same: the definition leaves no other choice.
+-- In whatever state with files as they may be, an event makes one list of changes, comes to one outcome and leaves one
+-- state, where what is given to the machine is the same: the definition leaves no other choice.
 abbrev pub HasOneStep : Event → Type 0
 HasOneStep event =
-    (setting : Setting) (old : State) (here there : List Change) (one other : Outcome) (first second : State) → IsFileSet old.now
+    (setting : Setting) (old : State) (here there : List Change) (one other : Outcome) (first second : State) →
+    IsFileSet old.now
     → AreGivenAlike one other → Step setting old event here one first → Step setting old event there other second
     → (here ≡ there) × (one ≡ other) × (first ≡ second)
 
 -- in whatever state in which the functions are as they may be, an event has a step, and one in which there are no trees
 abbrev pub HasStep : Event → Type 0
 HasStep event =
-    (setting : Setting) (old : State) → AreSound old.functions → (changes : List Change) × (outcome : Outcome) × (new : State)
+    (setting : Setting) (old : State) → AreSound old.functions
+    → (changes : List Change) × (outcome : Outcome) × (new : State)
     × Step setting old event changes outcome new
     × HasNoTrees outcome
 
@@ -88,11 +93,13 @@ pub record KeepsRunnable (f : ℕ) (step : StepTaken) : Type 0 where
 -- one of the steps is a tick that takes the function
 abbrev pub IsTakenIn : ℕ → List StepTaken → Type 0
 IsTakenIn f [] = ⊥
-IsTakenIn f (step ∷ steps) = ((step.event ≡ Tick) × (next_runnable step.old.functions step.old.last ≡ Some f)) ⊎ IsTakenIn f steps
+IsTakenIn f (step ∷ steps) =
+    ((step.event ≡ Tick) × (next_runnable step.old.functions step.old.last ≡ Some f)) ⊎ IsTakenIn f steps
 
--- Where a function is runnable before each of as many ticks as there are functions, with no restart among them, one of them
--- takes it.
+-- Where a function is runnable before each of as many ticks as there are functions, with no restart among them, one of
+-- them takes it.
 abbrev pub IsTakenInTime : Setting → ℕ → Type 0
 IsTakenInTime setting f =
-    (old : State) (steps : List StepTaken) (new : State) → 1 ≤ length old.functions → length old.functions ≤ ticks_in steps
+    (old : State) (steps : List StepTaken) (new : State) → 1 ≤ length old.functions
+    → length old.functions ≤ ticks_in steps
     → AllByRecursion (KeepsRunnable f) steps → Run setting old steps new → IsTakenIn f steps

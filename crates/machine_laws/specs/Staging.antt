@@ -21,7 +21,8 @@ use Rattle.plain_machine.specs.declared.outcome.How.TheVariants.{Hit, Walk}
 -- a `put` that is done stages each of its blocks, and a `map` each that was not held
 abbrev pub StagedByHost : Files → HostCommand → HostAnswer → ℕ → Type 0
 StagedByHost files (Put name v blocks) Ok count = count ≡ length blocks
-StagedByHost files (Map name v n) Ok count = (number : ℕ) (file : File) → HasName files name number file → count ≡ length (unheld file v n)
+StagedByHost files (Map name v n) Ok count = (number : ℕ) (file : File) → HasName files name number file
+    → count ≡ length (unheld file v n)
 StagedByHost files command answer count = count ≡ 0
 
 -- serving a block stages it where it is for a write, which comes to where it is kept
@@ -35,8 +36,8 @@ abbrev pub staged_by_handling : Handled → ℕ
 staged_by_handling (held.Held count) = count
 staged_by_handling handled = 0
 
--- An event that comes to a state and is answered so stages so many. The answer to a tick says no more than which function was
--- served, so whether that was for a write is seen in the state.
+-- An event that comes to a state and is answered so stages so many. The answer to a tick says no more than which
+-- function was served, so whether that was for a write is seen in the state.
 abbrev pub AreStaged : State → Event → Answer → ℕ → Type 0
 AreStaged old (Host command) (happened.Host said) count = StagedByHost old.now command said count
 AreStaged old Tick (happened.Served f v how) count = count ≡ staged_by_serving (function_at old.functions f.0) how

@@ -26,7 +26,8 @@ fn words_of(rt: &(impl Env + AllocGlobal)) -> io::Result<Vec<String>> {
 /// Says on standard error that there was no memory for the words, and answers the status of that.
 fn without_memory<E: Sink>(err: &mut E) -> Status
     ensures status { result ≡ Status.Memory }
-    ensures told { ¬ Rose (E.faults err.old) (E.faults err.new) → Appends (E.taken err.old) (E.taken err.new) (codes "nesc: memory\n") }
+    ensures told { ¬ Rose (E.faults err.old) (E.faults err.new)
+        → Appends (E.taken err.old) (E.taken err.new) (codes "nesc: memory\n") }
 {
     let _told = write_text(err, b"nesc: memory\n");
     Status::Memory

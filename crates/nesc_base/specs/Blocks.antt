@@ -1,10 +1,11 @@
 -- How the blocks of one request are kept.
-use Rattle.std.specs.Prelude.{◌≡◌, ℕ, ◌+◌, ◌<◌, ◌≤◌, Bool, true, false, List, length, map, replicate, count_by, slice_get, slice_index_or, Some}
+use Rattle.std.specs.Prelude.{◌≡◌, ℕ, ◌+◌, ◌<◌, ◌≤◌, Bool, true, false, List, length}
+use Rattle.std.specs.Prelude.{map, replicate, count_by, slice_get, slice_index_or, Some}
 use Rattle.nesc_base.specs.declared.block.Block.{Block}
 use Rattle.nesc_base.specs.declared.blocks.Form.{Form}
 use Rattle.nesc_base.specs.declared.blocks.Form.TheVariants.{Repeats, Full}
 use Rattle.nesc_base.specs.Block.{zero_block}
-use Rattle.nesc_base.specs.BlockText.{repeated}
+use Rattle.nesc_base.specs.BlockText.{period_size, repeated}
 
 -- how many blocks one request, put, map or get has at most
 abbrev pub most_in_request : ℕ
@@ -24,7 +25,7 @@ repeats (Full i) = false
 
 -- how a block of zeros is kept
 abbrev pub zero_form : Form
-zero_form = Repeats (replicate 8 0)
+zero_form = Repeats (replicate period_size 0)
 
 -- There is a form for each block, each that is kept in full is one of a block of its own, and the memory that was asked
 -- for has room for as many blocks as one request has at most, all of them in full.

@@ -11,6 +11,7 @@ coded_block = code_by (List ℕ) (coded_list coded_ℕ) (λ block. block.0) (λ 
 -- a division as its three numbers
 abbrev pub coded_geometry : Coded Geometry
 coded_geometry =
-    code_by (ℕ × (ℕ × ℕ)) (coded× coded_ℕ (coded× coded_ℕ coded_ℕ)) (λ geometry. (geometry.version, (geometry.blocks, geometry.slack)))
+    code_by (ℕ × (ℕ × ℕ)) (coded× coded_ℕ (coded× coded_ℕ coded_ℕ))
+    (λ geometry. (geometry.version, (geometry.blocks, geometry.slack)))
     (λ parts. record { version = parts.0; blocks = parts.1.0; slack = parts.1.1 })
     (λ _. refl)

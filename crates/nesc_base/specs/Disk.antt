@@ -36,7 +36,8 @@ pub record Goes (old new : Known) : Type 0 where
   pub same_size : new.size ≡ old.size
   pub still_tells : new.tells ≡ old.tells
   pub later : old.clock ≤ new.clock
-  pub over : old.tells ≡ true → (k : ℕ) (image : List Block) → k ≤ old.clock → k < count_end → new.left k image ↔ old.left k image
+  pub over : old.tells ≡ true → (k : ℕ) (image : List Block) → k ≤ old.clock → k < count_end
+      → new.left k image ↔ old.left k image
 
 -- nothing that is told has changed
 pub record Unchanged (old new : Known) : Type 0 where
@@ -66,4 +67,5 @@ nowhere at = ⊥
 
 -- every image that a stop has left since, the moment of the beginning included, has P, where the disk tells
 abbrev pub LeavesSince : (ℕ → List Block → Type 0) → Known → Known → Type 0
-LeavesSince P old new = old.tells ≡ true → (k : ℕ) (image : List Block) → old.clock ≤ k → k < count_end → new.left k image → P k image
+LeavesSince P old new = old.tells ≡ true → (k : ℕ) (image : List Block) → old.clock ≤ k → k < count_end
+    → new.left k image → P k image

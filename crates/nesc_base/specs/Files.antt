@@ -40,4 +40,5 @@ pub record IsFile (file : File) : Type 0 where
 pub record IsFileSet (files : Files) : Type 0 where
   pub numbers : (n : ℕ) → IsSome (get files n) → (1 ≤ n) × (n ≤ most_files)
   pub each : (n : ℕ) (file : File) → get files n ≡ Some file → IsFile file
-  pub apart : (m n : ℕ) (one other : File) → get files m ≡ Some one → get files n ≡ Some other → one.name ≡ other.name → m ≡ n
+  pub apart : (m n : ℕ) (one other : File) → get files m ≡ Some one → get files n ≡ Some other
+      → one.name ≡ other.name → m ≡ n

@@ -1,5 +1,6 @@
 -- How an image's blocks are divided. Each part stands behind the one before.
 use Rattle.std.specs.Prelude.{◌≡◌, ℕ, ◌+◌, ◌-◌, ◌*◌, ◌/◌, ◌≤◌}
+use Rattle.nesc_base.specs.Block.{block_size}
 use Rattle.nesc_base.specs.declared.geometry.Geometry.{Geometry}
 
 -- how few and how many data blocks there may be
@@ -36,6 +37,10 @@ table_blocks geometry = 1
 abbrev pub block_owners : ℕ
 block_owners = 128
 
+-- how many map blocks there are at most
+abbrev pub most_map_blocks : ℕ
+most_map_blocks = 512
+
 abbrev pub map_blocks : Geometry → ℕ
 map_blocks geometry = rounded_up geometry.blocks block_owners
 
@@ -45,7 +50,7 @@ slot_room geometry = geometry.slack + map_blocks geometry + table_blocks geometr
 
 -- its list is the number of its targets and the targets, each of four bytes
 abbrev pub list_blocks : Geometry → ℕ
-list_blocks geometry = rounded_up (4 + 4 * slot_room geometry) 1024
+list_blocks geometry = rounded_up (4 + 4 * slot_room geometry) block_size
 
 -- a slot is its gate, its list and its blocks
 abbrev pub slot_blocks : Geometry → ℕ

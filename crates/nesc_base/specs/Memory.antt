@@ -1,5 +1,6 @@
 -- What is known of a memory of words, and what its calls do to that.
-use Rattle.std.specs.Prelude.{◌≡◌, ◌⊎◌, ℕ, ◌+◌, ◌≤◌, ◌%◌, List, [], ◌∷◌, ◌++◌, length, take, drop, slice_set, Option, Some, IfSome}
+use Rattle.std.specs.Prelude.{◌≡◌, ◌⊎◌, ℕ, ◌+◌, ◌≤◌, ◌%◌, List, [], ◌∷◌, ◌++◌}
+use Rattle.std.specs.Prelude.{length, take, drop, slice_set, Option, Some, IfSome}
 use Rattle.nesc_base.specs.Fault.{Rose}
 
 pub record KnownMemory : Type 0 where

@@ -36,4 +36,5 @@ Owner = FileNo × ℕ
 -- where the places from one on have these owners, or none where they are free, block v of file n stands at this one
 abbrev pub IsOwned : ℕ → List (Option Owner) → ℕ → ℕ → ℕ → Type 0
 IsOwned from owners n v at =
-    (k : ℕ) × (owner : Owner) × (slice_get owners k ≡ Some (Some owner)) × (owner.0.0 ≡ n) × (owner.1 ≡ v) × (at ≡ from + k)
+    (k : ℕ) × (owner : Owner) × (slice_get owners k ≡ Some (Some owner)) × (owner.0.0 ≡ n)
+    × (owner.1 ≡ v) × (at ≡ from + k)

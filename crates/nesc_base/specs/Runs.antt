@@ -19,7 +19,8 @@ pub record IsBehind (one next : Run) : Type 0 where
 -- the maximal runs of a file, in rising order
 pub record AreRuns (runs : List Run) : Type 0 where
   pub each : (k : ℕ) (run : Run) → slice_get runs k ≡ Some run → IsRun run
-  pub rising : (k : ℕ) (one next : Run) → slice_get runs k ≡ Some one → slice_get runs (k + 1) ≡ Some next → IsBehind one next
+  pub rising : (k : ℕ) (one next : Run) → slice_get runs k ≡ Some one
+      → slice_get runs (k + 1) ≡ Some next → IsBehind one next
 
 -- block v of the file stands at this place as one of the run
 pub record IsIn (run : Run) (v at : ℕ) : Type 0 where
@@ -30,4 +31,5 @@ pub record IsIn (run : Run) (v at : ℕ) : Type 0 where
 -- these are the runs of a file whose held blocks stand so
 pub record AreRunsOf (held : HeldAt) (runs : List Run) : Type 0 where
   pub are : AreRuns runs
-  pub each : (v at : ℕ) → (get held v ≡ Some at) ↔ ((k : ℕ) × (run : Run) × (slice_get runs k ≡ Some run) × IsIn run v at)
+  pub each : (v at : ℕ) → (get held v ≡ Some at)
+      ↔ ((k : ℕ) × (run : Run) × (slice_get runs k ≡ Some run) × IsIn run v at)

@@ -36,7 +36,8 @@ pub trait Disk {
     /// Reads the block at a place. An `Err` may leave anything in the buffer; the disk stays as it is.
     fn read(&mut self, at: u32, into: &mut Block) -> Result<(), DiskFault>
         requires { at < (known self.old).size }
-        ensures block { (known self.old).tells ≡ true → OnOk result (slice_get (known self.old).contents at ≡ Some into.new) }
+        ensures block { (known self.old).tells ≡ true
+            → OnOk result (slice_get (known self.old).contents at ≡ Some into.new) }
         ensures unchanged { Unchanged (known self.old) (known self.new) }
         ensures goes { Goes (known self.old) (known self.new) }
         ensures keeps { keeps self.old self.new }
@@ -46,7 +47,8 @@ pub trait Disk {
     /// stop may leave any bytes there.
     fn write(&mut self, at: u32, from: &Block) -> Result<(), DiskFault>
         requires { at < (known self.old).size }
-        ensures written { (known self.old).tells ≡ true → OnOk result ((known self.new).contents ≡ slice_set (known self.old).contents at from.now) }
+        ensures written { (known self.old).tells ≡ true
+            → OnOk result ((known self.new).contents ≡ slice_set (known self.old).contents at from.now) }
         ensures writes { WritesAt (here at) (known self.old) (known self.new) }
         ensures rises { Rose (known self.old).clock (known self.new).clock }
         ensures goes { Goes (known self.old) (known self.new) }
@@ -65,16 +67,19 @@ pub trait Disk {
         ensures cause { HasCause (known self.old).faults (known self.new).faults (IsErr result) };
 
     /// A disk as it reads is one of its images now.
-    ghost reads_as_left: { (d : Self) → (known d).tells ≡ true → (known d).clock < count_end → (known d).left (known d).clock (known d).contents };
+    ghost reads_as_left: { (d : Self) → (known d).tells ≡ true → (known d).clock < count_end
+        → (known d).left (known d).clock (known d).contents };
 
     /// It reads as all its blocks.
     ghost reads_whole: { (d : Self) → (known d).tells ≡ true → length (known d).contents ≡ (known d).size };
 
     /// An image now differs from what the disk reads as only where it is unsynced.
-    ghost left_now: { (d : Self) (image : List Block) → (known d).tells ≡ true → (known d).clock < count_end → (known d).left (known d).clock image → CouldLeave (known d) image };
+    ghost left_now: { (d : Self) (image : List Block) → (known d).tells ≡ true → (known d).clock < count_end
+        → (known d).left (known d).clock image → CouldLeave (known d) image };
 
     /// At a clock value to come nothing is left yet.
-    ghost left_by_now: { (d : Self) (k : ℕ) (image : List Block) → (known d).tells ≡ true → k < count_end → (known d).left k image → k ≤ (known d).clock };
+    ghost left_by_now: { (d : Self) (k : ℕ) (image : List Block) → (known d).tells ≡ true → k < count_end
+        → (known d).left k image → k ≤ (known d).clock };
 
     /// What stays from one call to the next stays over any number of them.
     ghost keeps_itself: { (d : Self) → keeps d d };

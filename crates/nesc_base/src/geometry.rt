@@ -1,6 +1,8 @@
 ghost use Rattle.std.specs.Prelude.{◌≡◌, ◌≤◌};
 ghost use Rattle.nesc_base.specs.Geometry as geo;
 
+use crate::BLOCK_BYTES;
+
 /// How an image's blocks are divided: the superblock, four slots of the journal, the table of files, the map of
 /// owners and the data blocks, in this order.
 #[derive(Clone, Copy, Debug, PartialEq, Eq)]
@@ -28,6 +30,9 @@ impl Geometry {
 
     /// How many data blocks a map block has the owners of.
     pub const BLOCK_OWNERS: u32 = 128;
+
+    /// How many map blocks there may be.
+    pub const MOST_MAP_BLOCKS: u32 = Geometry::MOST_BLOCKS / Geometry::BLOCK_OWNERS;
 
     /// How many blocks the table has.
     fn table_blocks(&self) -> u32
@@ -57,7 +62,7 @@ impl Geometry {
         requires { geo.IsGeometry self.now }
         ensures { result ≡ geo.list_blocks self.now }
     {
-        (4 + 4 * self.slot_room()).div_ceil(1024)
+        (4 + 4 * self.slot_room()).div_ceil(BLOCK_BYTES as u32)
     }
 
     /// How many blocks a slot has.

@@ -23,13 +23,18 @@ impl Model for Name {
 
     ghost view = { λ name. take name.len name.bytes };
 
-    ghost inverse = { λ bytes. record { bytes = bytes ++ replicate (longest_name - length bytes) 0; len = length bytes } };
+    ghost inverse = { λ bytes.
+        record { bytes = bytes ++ replicate (longest_name - length bytes) 0; len = length bytes } };
 
-    ghost inverse_ok = { λ name kept i. record { bytes = padded_back name.bytes name.len kept.1 kept.2 i; len = counted_back name.bytes name.len kept.1 i } };
+    ghost inverse_ok = { λ name kept i. record {
+      bytes = padded_back name.bytes name.len kept.1 kept.2 i;
+      len = counted_back name.bytes name.len kept.1 i;
+    } };
 
     // Zeros fill the rest, so that a name's bytes say all of it.
     ghost invariant = { λ name. (name.len ≤ longest_name) × (name.len ≤ length name.bytes)
-        × (drop name.len name.bytes ≡ replicate (longest_name - name.len) 0) × IsTrue (is_name (take name.len name.bytes)) };
+        × (drop name.len name.bytes ≡ replicate (longest_name - name.len) 0)
+        × IsTrue (is_name (take name.len name.bytes)) };
 }
 
 fn is_name_byte(b: u8) -> bool

@@ -1,3 +1,4 @@
+pub mod BentMemory
 pub mod MemDisk
 pub mod MemDiskLaws
 pub mod MemSink

@@ -1,5 +1,6 @@
 -- What a disk in memory knows of itself: what it reads as, and the calls that it was given.
-use Rattle.std.specs.Prelude.{◌≡◌, ◌↔◌, ◌⊎◌, ℕ, ◌≤◌, ◌==◌, nat_lt, nat_le, ◌&&◌, ◌||◌, not, Bool, true, if◌then◌else◌, List, [], ◌∷◌, ◌++◌, Contains, All, length, take, slice_set}
+use Rattle.std.specs.Prelude.{◌≡◌, ◌↔◌, ◌⊎◌, ℕ, ◌≤◌, ◌==◌, nat_lt, nat_le, ◌&&◌, ◌||◌, not, Bool, true}
+use Rattle.std.specs.Prelude.{if◌then◌else◌, List, [], ◌∷◌, ◌++◌, Contains, All, length, take, slice_set}
 use Rattle.nesc_base.specs.declared.block.Block.{Block}
 use Rattle.nesc_base.specs.Count.{risen}
 use Rattle.nesc_base.specs.Disk.{DiffersAt, Known}
@@ -96,5 +97,6 @@ AreUnsynced disk places = (at : ℕ) → (known_of disk).unsynced at ↔ places 
 -- a write or a sync has failed: it is kept too, unless there is no memory for it
 abbrev pub Failed : Call → MemDiskState → MemDiskState → Type 0
 Failed call old new =
-    (new ≡ record old { calls = old.calls ++ call ∷ []; clock = risen old.clock; faults = risen old.faults; room = new.room })
+    (new ≡
+    record old { calls = old.calls ++ call ∷ []; clock = risen old.clock; faults = risen old.faults; room = new.room })
     ⊎ ((old.room ≡ 0) × (new ≡ record old { clock = risen old.clock; faults = risen old.faults; room = new.room }))

@@ -1,4 +1,5 @@
-ghost use Rattle.std.specs.Prelude.{◌≡◌, ◌+◌, ◌<◌, ◌≤◌, ◌↔◌, ◌⊎◌, true, false, [], ◌∷◌, ◌++◌, IsErr, OnOk, OnErr, Contains, Some, length, take, slice_get, slice_set, slice_index_or};
+ghost use Rattle.std.specs.Prelude.{◌≡◌, ◌+◌, ◌<◌, ◌≤◌, ◌↔◌, ◌⊎◌, true, false, [], ◌∷◌, ◌++◌, IsErr, OnOk};
+ghost use Rattle.std.specs.Prelude.{OnErr, Contains, Some, length, take, slice_get, slice_set, slice_index_or};
 ghost use Rattle.nesc_base.specs.Count.{risen};
 ghost use Rattle.nesc_base.specs.Disk.{Goes, IsSettled, OrUnsynced, Unchanged, WritesAt, here, nowhere};
 ghost use Rattle.nesc_base.specs.Fault.{HasCause, Rose};
@@ -27,7 +28,8 @@ impl Call {
     fn before_at(&self, k: u64, at: u32) -> Option<Block>
         ensures { MatchOption result
             ((blocks : List Block) → slice_get (without k self.now blocks) at ≡ slice_get blocks at)
-            (λ before. (blocks : List Block) → at < length blocks → slice_get (without k self.now blocks) at ≡ Some before) }
+            (λ before. (blocks : List Block) → at < length blocks
+            → slice_get (without k self.now blocks) at ≡ Some before) }
     {
         match self {
             Call::Write {
@@ -125,7 +127,8 @@ impl MemDisk {
         blocks: &[(usize, Block)],
         read_fails: &[u64],
     ) -> Result<MemDisk, NoMemory>
-        ensures { IfOk result (λ disk. disk ≡ fresh (put_all blocks.now (replicate size zero_block)) read_fails.now []) }
+        ensures { IfOk result (λ disk.
+            disk ≡ fresh (put_all blocks.now (replicate size zero_block)) read_fails.now []) }
     {
         let mut image = vec![in alloc; Block::zero(); size]?;
         for (at, block) in blocks {
@@ -176,7 +179,8 @@ impl MemDisk {
         requires over { k ≤ self.now.clock }
         requires seeded { 0 < pick }
         ensures left { IfOk result (λ image. IsLeft self.now k image.items) }
-        ensures torn { IfOk result (λ image. (at : ℕ) → at < length image.items → Contains (unsynced k self.now.calls []) at →
+        ensures torn { IfOk result (λ image. (at : ℕ) → at < length image.items
+            → Contains (unsynced k self.now.calls []) at →
             slice_get image.items at ≡ Some (torn_at pick at)) }
     {
         let mut image = Vec::new(alloc);
@@ -192,7 +196,8 @@ impl MemDisk {
     fn left_at(&self, k: u64, at: u32, torn: Block) -> Block
         requires { at < length self.now.blocks }
         ensures torn { Contains (unsynced k self.now.calls []) at → result ≡ torn }
-        ensures whole { ¬ Contains (unsynced k self.now.calls []) at → slice_get (contents_at self.now k) at ≡ Some result }
+        ensures whole { ¬ Contains (unsynced k self.now.calls []) at
+            → slice_get (contents_at self.now k) at ≡ Some result }
     {
         if self.is_unsynced(k, at) {
             torn
@@ -276,7 +281,8 @@ impl Disk for MemDisk {
 
         // What each call leaves.
         ensures ok { OnOk result (self.new ≡ record self.old { reads = risen self.old.reads }) }
-        ensures err { OnErr result (self.new ≡ record self.old { reads = risen self.old.reads; faults = risen self.old.faults }) }
+        ensures err { OnErr result
+            (self.new ≡ record self.old { reads = risen self.old.reads; faults = risen self.old.faults }) }
         ensures none { OnErr result (into.new ≡ into.old) }
     {
         self.reads = self.reads.saturating_add(1);
@@ -300,7 +306,8 @@ impl Disk for MemDisk {
         ensures cause { HasCause self.old.faults self.new.faults (IsErr result) }
 
         // The place is unsynced now, besides those that were, unless there was no memory to keep the call.
-        ensures unsynced { AreUnsynced self.new (OrUnsynced (here at) (known_of self.old)) ⊎ (IsErr result × ((self.old.room ≡ 0) × AreUnsynced self.new (known_of self.old).unsynced)) }
+        ensures unsynced { AreUnsynced self.new (OrUnsynced (here at) (known_of self.old))
+            ⊎ (IsErr result × ((self.old.room ≡ 0) × AreUnsynced self.new (known_of self.old).unsynced)) }
 
         // It fails at the calls that are listed, and else only where the list of calls has no memory for one more.
         ensures listed { Contains self.old.write_fails (risen self.old.clock) → IsErr result }
@@ -314,7 +321,8 @@ impl Disk for MemDisk {
           clock = risen self.old.clock;
           room = self.new.room;
         }) }
-        ensures err { OnErr result (Failed (Write (risen self.old.clock) at (slice_index_or self.old.blocks at from.now)) self.old self.new) }
+        ensures err { OnErr result
+            (Failed (Write (risen self.old.clock) at (slice_index_or self.old.blocks at from.now)) self.old self.new) }
         ensures room { self.old.room + length self.old.calls ≤ self.new.room + length self.new.calls }
     {
         self.clock = self.clock.saturating_add(1);

@@ -1,4 +1,5 @@
-ghost use Rattle.std.specs.Prelude.{◌≡◌, ◌+◌, ◌<◌, ◌≤◌, ◌⊎◌, [], ◌++◌, IfOk, IsErr, OnOk, OnErr, Contains, Some, length, take};
+ghost use Rattle.std.specs.Prelude.{◌≡◌, ◌+◌, ◌<◌, ◌≤◌, ◌⊎◌, [], ◌++◌, IfOk, IsErr};
+ghost use Rattle.std.specs.Prelude.{OnOk, OnErr, Contains, Some, length, take};
 ghost use Rattle.nesc_base.specs.Count.{risen};
 ghost use Rattle.nesc_base.specs.Fault.{HasCause};
 ghost use Rattle.nesc_base.specs.Sink.{Appends, TakesNone};
@@ -69,7 +70,8 @@ impl Sink for MemSink {
         // It fails at the calls that are listed, and else only where the piece has no room in the memory that
         // the sink has. So an empty piece is never refused for want of memory.
         ensures listed { Contains self.old.fails (risen self.old.calls) → IsErr result }
-        ensures only { IsErr result → Contains self.old.fails (risen self.old.calls) ⊎ (self.old.room < length from.now) }
+        ensures only { IsErr result
+            → Contains self.old.fails (risen self.old.calls) ⊎ (self.old.room < length from.now) }
         ensures whole { IfOk result (λ n. n ≡ length from.now) }
 
         // What each call leaves.

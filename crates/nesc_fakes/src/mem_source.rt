@@ -1,4 +1,5 @@
-ghost use Rattle.std.specs.Prelude.{◌≡◌, ◌<◌, ◌≤◌, ◌↔◌, ◌++◌, IfOk, IsErr, OnErr, Contains, Some, length, min, take, drop};
+ghost use Rattle.std.specs.Prelude.{◌≡◌, ◌<◌, ◌≤◌, ◌↔◌, ◌++◌, IfOk, IsErr, OnErr};
+ghost use Rattle.std.specs.Prelude.{Contains, Some, length, min, take, drop};
 ghost use Rattle.nesc_base.specs.Count.{risen};
 ghost use Rattle.nesc_base.specs.Fault.{HasCause};
 ghost use Rattle.nesc_base.specs.Source.{GivesFirst};
@@ -59,8 +60,10 @@ impl Source for MemSource {
         ensures given { IfOk result (λ n. into.new ≡ take n self.old.left ++ drop n into.old) }
 
         // What each call leaves.
-        ensures ok { IfOk result (λ n. self.new ≡ record self.old { left = drop n self.old.left; calls = risen self.old.calls }) }
-        ensures err { OnErr result (self.new ≡ record self.old { calls = risen self.old.calls; faults = risen self.old.faults }) }
+        ensures ok { IfOk result (λ n.
+            self.new ≡ record self.old { left = drop n self.old.left; calls = risen self.old.calls }) }
+        ensures err { OnErr result
+            (self.new ≡ record self.old { calls = risen self.old.calls; faults = risen self.old.faults }) }
         ensures none { OnErr result (into.new ≡ into.old) }
     {
         self.calls = self.calls.saturating_add(1);

@@ -18,6 +18,7 @@ impl Model for Rest {
 }
 
 impl Rest {
+    /// What is left to read is all of these bytes.
     pub fn new(bytes: Vec<u8>) -> Rest
         ensures { result ≡ bytes.items }
     {

@@ -1,7 +1,9 @@
-ghost use Rattle.std.specs.Prelude.{◌≡◌, ◌<◌, length};
+ghost use Rattle.std.specs.Prelude.{◌≡◌, ◌<◌, length, None};
 
-use crate::{Call, MemDisk, MemSink, MemSource, TinyFuse};
-use nesc_base::{Block, Disk, DiskFault, NoMemory, ReadFault, Sink, Source, WriteFault};
+use crate::{BentMemory, Call, MemDisk, MemSink, MemSource, TinyFuse};
+use nesc_base::{
+    Block, Disk, DiskFault, Memory, NODE_WORDS, NoMemory, ReadFault, Sink, Source, WriteFault,
+};
 use std::alloc::Global;
 use std::test::Fail;
 
@@ -181,5 +183,78 @@ fn fuse_fails_every_call_after_those_it_passes_on(rt: HostRuntime) -> Result<(),
     assert_eq!(rt; (fuse.clock(), fuse.inner().clock()), (2, 1));
     let calls = fuse.inner().calls();
     assert!(rt; matches!(calls, [Call::Write { at: 0, .. }]));
+    Ok(())
+}
+
+/// Two nodes of words, which do not tell from where nodes were fetched.
+#[derive(Debug, Drop)]
+struct TwoNodes([u64; 64]);
+
+impl Memory for TwoNodes {
+    ghost known = { λ memory. record { words = memory.0; fetched = None; bent = 0 } };
+
+    fn words(&self) -> u32 {
+        64
+    }
+
+    fn load(&self, at: u32) -> u64 {
+        self.0[at as usize]
+    }
+
+    fn store(&mut self, at: u32, word: u64) {
+        self.0[at as usize] = word;
+    }
+
+    fn fetch(&mut self, node: u32) -> [u64; NODE_WORDS] {
+        let at = node as usize;
+        let mut words = [0; NODE_WORDS];
+        words.copy_from_slice(&self.0[at..at + NODE_WORDS]);
+        words
+    }
+}
+
+// The first two words of a node, as the device fetches them, and no words where there is no such node.
+fn fetch_two<M: Memory>(memory: &mut M, node: u32) -> [u64; 2] {
+    if node % 32 != 0 || memory.words() < 32 || memory.words() - 32 < node {
+        return [0; 2];
+    }
+    let words = memory.fetch(node);
+    [words[0], words[1]]
+}
+
+// The word at an address, and 0 where there is none.
+fn load<M: Memory>(memory: &M, at: u32) -> u64 {
+    if at < memory.words() {
+        memory.load(at)
+    } else {
+        0
+    }
+}
+
+fn store<M: Memory>(memory: &mut M, at: u32, word: u64) {
+    if at < memory.words() {
+        memory.store(at, word);
+    }
+}
+
+#[test]
+fn one_fetch_is_bent_and_the_words_stay(rt: HostRuntime) -> Result<(), Fail> {
+    let mut memory = BentMemory::new(TwoNodes([0; 64]), 2, [7; NODE_WORDS]);
+    store(&mut memory, 32, 5);
+    store(&mut memory, 33, 6);
+    assert_eq!(rt; fetch_two(&mut memory, 32), [5, 6]);
+    assert_eq!(rt; fetch_two(&mut memory, 32), [7, 7]);
+    assert_eq!(rt; load(&memory, 32), 5);
+    assert_eq!(rt; load(memory.inner(), 33), 6);
+    assert_eq!(rt; fetch_two(&mut memory, 32), [5, 6]);
+    assert_eq!(rt; fetch_two(&mut memory, 0), [0, 0]);
+    Ok(())
+}
+
+#[test]
+fn no_fetch_is_bent_before_the_first(rt: HostRuntime) -> Result<(), Fail> {
+    let mut memory = BentMemory::new(TwoNodes([4; 64]), 0, [7; NODE_WORDS]);
+    assert_eq!(rt; fetch_two(&mut memory, 0), [4, 4]);
+    assert_eq!(rt; fetch_two(&mut memory, 0), [4, 4]);
     Ok(())
 }

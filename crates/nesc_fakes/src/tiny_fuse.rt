@@ -9,8 +9,8 @@ use std::marker::Model;
 /// A disk over another. It passes calls on to that one, as many as it is told, and fails every call after them itself.
 /// Reads, writes and syncs are counted together.
 ///
-/// From the first call that fails here the inner disk stays as it is. The clock rises on all the same, at each write and
-/// sync, up to 2^64 - 1, and a stop at any moment from then on leaves what one leaves of the inner disk now.
+/// From the first call that fails here the inner disk stays as it is. The clock rises on all the same, at each write
+/// and sync, up to 2^64 - 1, and a stop at any moment from then on leaves what one leaves of the inner disk now.
 #[derive(Debug, Drop)]
 pub struct TinyFuse<D> {
     inner: D,
@@ -25,7 +25,8 @@ impl<D> Model for TinyFuse<D> {
 
     ghost Value = { TinyFuseState D };
 
-    ghost view = { λ fuse. record { inner = fuse.inner; passes = fuse.passes; burnt = fuse.burnt; failed = fuse.failed } };
+    ghost view = { λ fuse.
+        record { inner = fuse.inner; passes = fuse.passes; burnt = fuse.burnt; failed = fuse.failed } };
 
     ghost invariant = { λ fuse. 0 < fuse.passes → fuse.burnt ≡ 0 };
 }
@@ -52,9 +53,11 @@ impl<D> TinyFuse<D> {
 
     // Counts a call down. An `Err` says that it is not passed on: it has failed here.
     fn pass(&mut self) -> Result<(), DiskFault>
-        ensures ok { OnOk result ((0 < self.old.passes) × (self.new ≡ record self.old { passes = self.old.passes - 1 })) }
+        ensures ok { OnOk result
+            ((0 < self.old.passes) × (self.new ≡ record self.old { passes = self.old.passes - 1 })) }
         ensures whole { OnOk result (self.old.burnt ≡ 0) }
-        ensures err { OnErr result ((self.old.passes ≡ 0) × (self.new ≡ record self.old { failed = risen self.old.failed })) }
+        ensures err { OnErr result
+            ((self.old.passes ≡ 0) × (self.new ≡ record self.old { failed = risen self.old.failed })) }
     {
         if self.passes == 0 {
             self.failed = self.failed.saturating_add(1);
@@ -66,9 +69,11 @@ impl<D> TinyFuse<D> {
 
     // The same for a write or a sync, at each of which the clock rises.
     fn pass_write(&mut self) -> Result<(), DiskFault>
-        ensures ok { OnOk result ((0 < self.old.passes) × (self.new ≡ record self.old { passes = self.old.passes - 1 })) }
+        ensures ok { OnOk result
+            ((0 < self.old.passes) × (self.new ≡ record self.old { passes = self.old.passes - 1 })) }
         ensures whole { OnOk result (self.old.burnt ≡ 0) }
-        ensures err { OnErr result ((self.old.passes ≡ 0) × (self.new ≡ record self.old { burnt = risen self.old.burnt; failed = risen self.old.failed })) }
+        ensures err { OnErr result ((self.old.passes ≡ 0)
+            × (self.new ≡ record self.old { burnt = risen self.old.burnt; failed = risen self.old.failed })) }
     {
         if self.passes == 0 {
             self.burnt = self.burnt.saturating_add(1);
@@ -85,11 +90,13 @@ impl<D: Disk> Disk for TinyFuse<D> {
 
     ghost keeps = { λ old new. D.keeps old.inner new.inner };
 
-    ghost reads_as_left = { λ d tells before. reads_as_left (D.known d.inner) d.burnt (D.reads_as_left d.inner) tells before };
+    ghost reads_as_left = { λ d tells before.
+        reads_as_left (D.known d.inner) d.burnt (D.reads_as_left d.inner) tells before };
 
     ghost reads_whole = { λ d tells. D.reads_whole d.inner tells };
 
-    ghost left_now = { λ d image tells before left. left_now (D.known d.inner) d.burnt image (D.left_now d.inner image) tells before left };
+    ghost left_now = { λ d image tells before left.
+        left_now (D.known d.inner) d.burnt image (D.left_now d.inner image) tells before left };
 
     ghost left_by_now = { λ d k image _ _ left. left.by_now };
 
@@ -113,15 +120,18 @@ impl<D: Disk> Disk for TinyFuse<D> {
     /// Reads the block at a place of the inner disk. Where the call is not passed on the buffer stays as it is.
     fn read(&mut self, at: u32, into: &mut Block) -> Result<(), DiskFault>
         requires { at < (D.known self.old.inner).size }
-        ensures block { (D.known self.old.inner).tells ≡ true → OnOk result (slice_get (D.known self.old.inner).contents at ≡ Some into.new) }
+        ensures block { (D.known self.old.inner).tells ≡ true
+            → OnOk result (slice_get (D.known self.old.inner).contents at ≡ Some into.new) }
         ensures unchanged { Unchanged (known_of D.known self.old) (known_of D.known self.new) }
         ensures goes { Goes (known_of D.known self.old) (known_of D.known self.new) }
         ensures keeps { D.keeps self.old.inner self.new.inner }
         ensures cause { HasCause (known_of D.known self.old).faults (known_of D.known self.new).faults (IsErr result) }
 
         // A call that is passed on is one less to pass on, and fails only where the inner disk does.
-        ensures passed { 0 < self.old.passes → self.new ≡ record self.old { inner = self.new.inner; passes = self.old.passes - 1 } }
-        ensures inside { 0 < self.old.passes → HasCause (D.known self.old.inner).faults (D.known self.new.inner).faults (IsErr result) }
+        ensures passed { 0 < self.old.passes
+            → self.new ≡ record self.old { inner = self.new.inner; passes = self.old.passes - 1 } }
+        ensures inside { 0 < self.old.passes
+            → HasCause (D.known self.old.inner).faults (D.known self.new.inner).faults (IsErr result) }
 
         // Any other fails and is counted. The inner disk stays as it is.
         ensures err { self.old.passes ≡ 0 → IsErr result }
@@ -135,7 +145,8 @@ impl<D: Disk> Disk for TinyFuse<D> {
     /// Writes the block at a place of the inner disk. Where the call is not passed on the disk reads as before.
     fn write(&mut self, at: u32, from: &Block) -> Result<(), DiskFault>
         requires { at < (D.known self.old.inner).size }
-        ensures written { (D.known self.old.inner).tells ≡ true → OnOk result ((D.known self.new.inner).contents ≡ slice_set (D.known self.old.inner).contents at from.now) }
+        ensures written { (D.known self.old.inner).tells ≡ true → OnOk result
+            ((D.known self.new.inner).contents ≡ slice_set (D.known self.old.inner).contents at from.now) }
         ensures writes { WritesAt (here at) (known_of D.known self.old) (known_of D.known self.new) }
         ensures rises { Rose (known_of D.known self.old).clock (known_of D.known self.new).clock }
         ensures goes { Goes (known_of D.known self.old) (known_of D.known self.new) }
@@ -143,12 +154,15 @@ impl<D: Disk> Disk for TinyFuse<D> {
         ensures cause { HasCause (known_of D.known self.old).faults (known_of D.known self.new).faults (IsErr result) }
 
         // A call that is passed on is one less to pass on, and fails only where the inner disk does.
-        ensures passed { 0 < self.old.passes → self.new ≡ record self.old { inner = self.new.inner; passes = self.old.passes - 1 } }
-        ensures inside { 0 < self.old.passes → HasCause (D.known self.old.inner).faults (D.known self.new.inner).faults (IsErr result) }
+        ensures passed { 0 < self.old.passes
+            → self.new ≡ record self.old { inner = self.new.inner; passes = self.old.passes - 1 } }
+        ensures inside { 0 < self.old.passes
+            → HasCause (D.known self.old.inner).faults (D.known self.new.inner).faults (IsErr result) }
 
         // Any other fails and is counted. The inner disk stays as it is.
         ensures err { self.old.passes ≡ 0 → IsErr result }
-        ensures alone { self.old.passes ≡ 0 → self.new ≡ record self.old { burnt = risen self.old.burnt; failed = risen self.old.failed } }
+        ensures alone { self.old.passes ≡ 0
+            → self.new ≡ record self.old { burnt = risen self.old.burnt; failed = risen self.old.failed } }
     {
         self.pass_write()?;
         self.inner.write(at, from)
@@ -156,7 +170,8 @@ impl<D: Disk> Disk for TinyFuse<D> {
 
     /// Makes sure of what was written to the inner disk. Where the call is not passed on what was unsynced is so still.
     fn sync(&mut self) -> Result<(), DiskFault>
-        ensures contents { (D.known self.old.inner).tells ≡ true → (D.known self.new.inner).contents ≡ (D.known self.old.inner).contents }
+        ensures contents { (D.known self.old.inner).tells ≡ true
+            → (D.known self.new.inner).contents ≡ (D.known self.old.inner).contents }
         ensures settled { (D.known self.old.inner).tells ≡ true → OnOk result (IsSettled (D.known self.new.inner)) }
         ensures writes { WritesAt nowhere (known_of D.known self.old) (known_of D.known self.new) }
         ensures rises { Rose (known_of D.known self.old).clock (known_of D.known self.new).clock }
@@ -165,12 +180,15 @@ impl<D: Disk> Disk for TinyFuse<D> {
         ensures cause { HasCause (known_of D.known self.old).faults (known_of D.known self.new).faults (IsErr result) }
 
         // A call that is passed on is one less to pass on, and fails only where the inner disk does.
-        ensures passed { 0 < self.old.passes → self.new ≡ record self.old { inner = self.new.inner; passes = self.old.passes - 1 } }
-        ensures inside { 0 < self.old.passes → HasCause (D.known self.old.inner).faults (D.known self.new.inner).faults (IsErr result) }
+        ensures passed { 0 < self.old.passes
+            → self.new ≡ record self.old { inner = self.new.inner; passes = self.old.passes - 1 } }
+        ensures inside { 0 < self.old.passes
+            → HasCause (D.known self.old.inner).faults (D.known self.new.inner).faults (IsErr result) }
 
         // Any other fails and is counted. The inner disk stays as it is.
         ensures err { self.old.passes ≡ 0 → IsErr result }
-        ensures alone { self.old.passes ≡ 0 → self.new ≡ record self.old { burnt = risen self.old.burnt; failed = risen self.old.failed } }
+        ensures alone { self.old.passes ≡ 0
+            → self.new ≡ record self.old { burnt = risen self.old.burnt; failed = risen self.old.failed } }
     {
         self.pass_write()?;
         self.inner.sync()

@@ -1,6 +1,7 @@
 -- What a file as a disk is at a moment.
 use Rattle.std.specs.Prelude.{ℕ, ◌/◌, ◌==◌, if◌then◌else◌, Bool, false, List, [], Option, codes, length, min, unwrap_or}
 use Rattle.std.specs.Path.{path_parent}
+use Rattle.nesc_base.specs.Block.{block_size}
 use Rattle.nesc_base.specs.Disk.{Known}
 
 pub record FileDiskState (File : Type 0) : Type 0 where
@@ -33,9 +34,13 @@ known_of disk = record {
   faults = disk.faults;
 }
 
+-- how many blocks a disk has where there is no file yet, or an empty one
+abbrev pub blank_blocks : ℕ
+blank_blocks = 4194304
+
 -- how many blocks there are in so many bytes
 abbrev pub whole_blocks_in : ℕ → ℕ
-whole_blocks_in len = min (len / 1024) 4294967295
+whole_blocks_in len = min (len / block_size) 4294967295
 
 -- the folder in which the file of a path stands: its parent, or `.` where that is empty
 abbrev pub folder_of : List ℕ → List ℕ

@@ -1,11 +1,12 @@
-ghost use Rattle.std.specs.Prelude.{◌≡◌, ◌≢◌, ◌⊎◌, ◌+◌, ◌*◌, ◌<◌, true, false, None, Some, IsTrue, IsSome, IsOk, IsErr, IfOk, IfErr, OnOk, OnErr, min, slice_get, slice_set};
+ghost use Rattle.std.specs.Prelude.{◌≡◌, ◌≢◌, ◌⊎◌, ◌+◌, ◌*◌, ◌<◌, true, false, None, Some, IsTrue, IsSome};
+ghost use Rattle.std.specs.Prelude.{IsOk, IsErr, IfOk, IfErr, OnOk, OnErr, min, slice_get, slice_set};
 ghost use Rattle.std.proofs.Common.{rules};
 ghost use Rattle.std.specs.Fs.{metadata_len, file_type, IsFile};
 ghost use Rattle.std.specs.IoError.{error_kind};
-ghost use Rattle.nesc_base.specs.Block.{zero_block};
+ghost use Rattle.nesc_base.specs.Block.{block_size, zero_block};
 ghost use Rattle.nesc_base.specs.Disk.{Goes, IsSettled, Unchanged, WritesAt, here, nowhere};
 ghost use Rattle.nesc_base.specs.Fault.{HasCause, Rose};
-ghost use Rattle.nesc_host_os.specs.FileDisk.{whole_blocks_in, folder_of, known_of};
+ghost use Rattle.nesc_host_os.specs.FileDisk.{blank_blocks, whole_blocks_in, folder_of, known_of};
 
 use nesc_base::{BLOCK_BYTES, Block, Disk, DiskFault};
 use std::fs::{self, Metadata, OpenFile, OpenOptions};
@@ -15,6 +16,7 @@ use std::os::unix::fs::FileExt;
 use std::path::Path;
 use std::rt::Files;
 
+/// How many blocks a disk has where there is no file yet, or an empty one.
 const BLANK_BLOCKS: u32 = 4_194_304;
 
 /// A file as a disk, which does not tell what it holds or what a stop leaves. Block `n` is the 1024 bytes from byte
@@ -53,9 +55,9 @@ impl<'a, R: Files> Model for FileDisk<'a, R> {
 fn extent_of(found: &io::Result<Metadata>) -> (u32, bool)
     ensures file { IfOk found.now (λ m. IsFile (file_type m) → 0 < metadata_len m →
         result ≡ (whole_blocks_in (metadata_len m), false)) }
-    ensures empty { IfOk found.now (λ m. IsFile (file_type m) → metadata_len m ≡ 0 → result ≡ (4194304, true)) }
+    ensures empty { IfOk found.now (λ m. IsFile (file_type m) → metadata_len m ≡ 0 → result ≡ (blank_blocks, true)) }
     ensures no_file { IfOk found.now (λ m. ¬ IsFile (file_type m) → result ≡ (0, false)) }
-    ensures absent { IfErr found.now (λ e. error_kind e ≡ ErrorKind.NotFound → result ≡ (4194304, true)) }
+    ensures absent { IfErr found.now (λ e. error_kind e ≡ ErrorKind.NotFound → result ≡ (blank_blocks, true)) }
     ensures unseen { IfErr found.now (λ e. error_kind e ≢ ErrorKind.NotFound → result ≡ (0, false)) }
 {
     match found {
@@ -70,14 +72,14 @@ fn extent_of(found: &io::Result<Metadata>) -> (u32, bool)
 fn whole_blocks(len: u64) -> u32
     ensures { result ≡ whole_blocks_in len }
 {
-    u32::try_from(len / 1024).unwrap_or(u32::MAX)
+    u32::try_from(len / BLOCK_BYTES as u64).unwrap_or(u32::MAX)
 }
 
 /// The byte at which a block begins.
 fn start_of(at: u32) -> u64
-    ensures { result ≡ at * 1024 }
+    ensures { result ≡ at * block_size }
 {
-    u64::from(at) * 1024
+    u64::from(at) * BLOCK_BYTES as u64
 }
 
 /// The folder in which the file of this path stands: its parent, or `.` where the path has one name alone.
@@ -131,7 +133,7 @@ where
           clock = 0;
           faults = 0;
         } }
-        ensures blank { IsTrue result.is_blank → result.size ≡ 4194304 }
+        ensures blank { IsTrue result.is_blank → result.size ≡ blank_blocks }
     {
         let (size, is_blank) = extent_of(&fs::metadata(rt, path));
         FileDisk {
@@ -177,7 +179,8 @@ where
         ensures opened { OnOk result (IsSome self.new.file × IsTrue self.new.is_writable) }
         ensures stays { IsTrue self.old.is_writable → IsSome self.old.file →
             IsSome self.new.file × IsTrue self.new.is_writable × (self.new.folder_waits ≡ self.old.folder_waits) }
-        ensures made { IsTrue self.old.is_blank → self.old.file ≡ None → IsSome self.new.file → IsTrue self.new.folder_waits }
+        ensures made { IsTrue self.old.is_blank → self.old.file ≡ None → IsSome self.new.file
+            → IsTrue self.new.folder_waits }
         ensures begins { IsTrue self.new.folder_waits → IsTrue self.old.is_blank ⊎ IsTrue self.old.folder_waits }
         ensures still_waits { IsTrue self.old.folder_waits → IsTrue self.new.folder_waits }
         ensures file { self.new ≡ record self.old {
@@ -293,7 +296,8 @@ where
     /// by one, up to 2^64 - 1.
     fn read(&mut self, at: u32, into: &mut Block) -> Result<(), DiskFault>
         requires { at < self.old.size }
-        ensures block { (known_of self.old).tells ≡ true → OnOk result (slice_get (known_of self.old).contents at ≡ Some into.new) }
+        ensures block { (known_of self.old).tells ≡ true
+            → OnOk result (slice_get (known_of self.old).contents at ≡ Some into.new) }
         ensures unchanged { Unchanged (known_of self.old) (known_of self.new) }
         ensures goes { Goes (known_of self.old) (known_of self.new) }
         ensures keeps { Unit {0} }
@@ -323,7 +327,8 @@ where
     /// 2^64 - 1.
     fn write(&mut self, at: u32, from: &Block) -> Result<(), DiskFault>
         requires { at < self.old.size }
-        ensures written { (known_of self.old).tells ≡ true → OnOk result ((known_of self.new).contents ≡ slice_set (known_of self.old).contents at from.now) }
+        ensures written { (known_of self.old).tells ≡ true
+            → OnOk result ((known_of self.new).contents ≡ slice_set (known_of self.old).contents at from.now) }
         ensures writes { WritesAt (here at) (known_of self.old) (known_of self.new) }
         ensures rises { Rose self.old.clock self.new.clock }
         ensures goes { Goes (known_of self.old) (known_of self.new) }
@@ -336,7 +341,8 @@ where
             IsSome self.new.file × IsTrue self.new.is_writable × (self.new.folder_waits ≡ self.old.folder_waits) }
 
         // The folder of a file that a write made waits for a sync. No other folder begins to wait.
-        ensures made { IsTrue self.old.is_blank → self.old.file ≡ None → IsSome self.new.file → IsTrue self.new.folder_waits }
+        ensures made { IsTrue self.old.is_blank → self.old.file ≡ None → IsSome self.new.file
+            → IsTrue self.new.folder_waits }
         ensures begins { IsTrue self.new.folder_waits → IsTrue self.old.is_blank ⊎ IsTrue self.old.folder_waits }
         ensures still_waits { IsTrue self.old.folder_waits → IsTrue self.new.folder_waits }
 
@@ -367,7 +373,8 @@ where
     /// An `Err` says that the path or its folder could not be opened, or that the host could not do it. The next sync
     /// tries all of it again. It raises the count of faults by one, up to 2^64 - 1.
     fn sync(&mut self) -> Result<(), DiskFault>
-        ensures contents { (known_of self.old).tells ≡ true → (known_of self.new).contents ≡ (known_of self.old).contents }
+        ensures contents { (known_of self.old).tells ≡ true
+            → (known_of self.new).contents ≡ (known_of self.old).contents }
         ensures settled { (known_of self.old).tells ≡ true → OnOk result (IsSettled (known_of self.new)) }
         ensures writes { WritesAt nowhere (known_of self.old) (known_of self.new) }
         ensures rises { Rose self.old.clock self.new.clock }

@@ -1,4 +1,5 @@
-ghost use Rattle.std.specs.Prelude.{◌≡◌, ◌+◌, ◌<◌, ◌≤◌, None, IsSome, IfOk, IsErr, OnOk, OnErr, length, min, option_and_then};
+ghost use Rattle.std.specs.Prelude.{◌≡◌, ◌+◌, ◌<◌, ◌≤◌, None, IsSome, IfOk, IsErr};
+ghost use Rattle.std.specs.Prelude.{OnOk, OnErr, length, min, option_and_then};
 ghost use Rattle.std.specs.Io.KnownBytes.{ReadConsumes};
 ghost use Rattle.nesc_base.specs.Fault.{HasCause};
 ghost use Rattle.nesc_base.specs.Source.{GivesFirst};

@@ -23,10 +23,10 @@ queue_few [] = omega arith
 queue_few (head ∷ rest) = omega (arith, sum_by-cons (λ (queued : Queued). request_buffers queued.request) head rest, request_one head.request, queue_few rest)
 
 -- where no more than so many requests wait for a function, these have no more for each
-waiting_few : (most : ℕ) (all : List Requests) → ((i : ℕ) (requests : Requests) → slice_get all i ≡ Some requests → length requests.queue ≤ most) → waiting_buffers all ≤ length all * most
+waiting_few : (most : ℕ) (all : List Requests) → ((i : ℕ) (requests : Requests) → slice_get all i ≡ Some requests → length requests.queue.requests ≤ most) → waiting_buffers all ≤ length all * most
 waiting_few most [] few = omega arith
 waiting_few most (first ∷ more) few =
-    omega (arith, sum_by-cons (λ (requests : Requests). queue_buffers requests.queue) first more, queue_few first.queue, few 0 first refl, waiting_few most more (λ i. few (suc i)))
+    omega (arith, sum_by-cons (λ (requests : Requests). queue_buffers requests.queue.requests) first more, queue_few first.queue.requests, few 0 first refl, waiting_few most more (λ i. few (suc i)))
 
 -- before a word is taken one is spare
 pub one_spare : (commands : Left) (spare : Spare) (session : Session) → IsSession session → HasBuffers commands spare session → 1 ≤ spare.count
@@ -36,7 +36,7 @@ one_spare commands spare session sound has =
     let many : length all ≡ machine.functions = sound.functions ∙ ap (λ m. m.functions) has.machine in
     let queue : session.setting.machine.queue ≡ machine.queue = ap (λ m. m.queue) has.machine in
     let waiting : waiting_buffers all ≤ machine.functions * machine.queue =
-    subst (λ (n : ℕ). waiting_buffers all ≤ n * machine.queue) many (waiting_few machine.queue all (λ i requests at. omega (arith, queue, sound.few (suc i) requests at))) in
+    subst (λ (n : ℕ). waiting_buffers all ≤ n * machine.queue) many (waiting_few machine.queue all (λ i requests at. omega (arith, queue, (sound.few (suc i) requests at).within))) in
     omega (arith, waiting, has.all, has.few, mul-add machine.functions machine.queue 1)
 
 -- behind a word they are where they were, but for those that went along with its event and its outcome

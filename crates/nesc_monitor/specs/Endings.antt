@@ -4,7 +4,8 @@ use Rattle.std.specs.Fmt.{decimal}
 use Rattle.nesc_base.specs.declared.geometry.Geometry.{Geometry}
 use Rattle.nesc_base.specs.Disk.{Known, LeavesSince}
 use Rattle.image_layout.specs.declared.fault.ImageFault.{ImageFault}
-use Rattle.image_layout.specs.declared.fault.ImageFault.TheVariants.{BadSuper, BadSize, BadList, BadTable, BadOwner, TwiceOwned}
+use Rattle.image_layout.specs.declared.fault.ImageFault.TheVariants.{BadSuper, BadSize, BadList}
+use Rattle.image_layout.specs.declared.fault.ImageFault.TheVariants.{BadTable, BadOwner, TwiceOwned}
 use Rattle.image_tools.specs.Make.{OpensWhereMade}
 use Rattle.nesc_monitor.specs.Inputs.{input_line}
 use Rattle.nesc_monitor.specs.Making.{ComesOfMake}
@@ -15,7 +16,8 @@ use Rattle.nesc_monitor.specs.declared.words.Command.TheVariants.{Run, Make}
 use Rattle.nesc_monitor.specs.declared.ending.Ending.{Ending}
 use Rattle.nesc_monitor.specs.declared.ending.Ending.TheVariants as ending
 use Rattle.nesc_monitor.specs.declared.ending.Status.{Status}
-use Rattle.nesc_monitor.specs.declared.ending.Status.TheVariants.{Done, Words, Memory, Input, Image, Device, Read, Write}
+use Rattle.nesc_monitor.specs.declared.ending.Status.TheVariants.{Done, Words, Memory, Input}
+use Rattle.nesc_monitor.specs.declared.ending.Status.TheVariants.{Image, Device, Read, Write}
 
 -- the exit status
 abbrev pub code_of : Status → ℕ
@@ -62,9 +64,11 @@ error_line ending.Write = codes "nesc: write\n"
 
 -- What an ending says, by the command that the words are: of the two sources, of the image and of the sink.
 abbrev pub Comes : Ending → Option Command → Watched → Watched → WatchedDisk → Watched → Type 0
-Comes outcome None commands schedule image out = (outcome ≡ ending.Words) × IsUntouched commands × IsUntouched schedule × IsOnlyRead image × IsDiskUntouched image × IsUntouched out
+Comes outcome None commands schedule image out = (outcome ≡ ending.Words) × IsUntouched commands × IsUntouched schedule
+    × IsOnlyRead image × IsDiskUntouched image × IsUntouched out
 Comes outcome (Some Run) commands schedule image out = ComesOfRun outcome commands schedule image out
-Comes outcome (Some (Make geometry)) commands schedule image out = IsUntouched commands × IsUntouched schedule × ComesOfMake outcome geometry image.before image.after out
+Comes outcome (Some (Make geometry)) commands schedule image out =
+    IsUntouched commands × IsUntouched schedule × ComesOfMake outcome geometry image.before image.after out
 
 -- a stop leaves what it left before
 abbrev pub LeavesAsBefore : Known → Known → Type 0

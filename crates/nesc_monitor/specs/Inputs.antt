@@ -3,9 +3,11 @@ use Rattle.std.specs.Prelude.{ℕ, ℤ, ◌++◌, zero, suc, List, [], if◌then
 use Rattle.std.specs.Fmt.{decimal}
 use Rattle.std.specs.Int.{is_negative}
 use Rattle.script_lang.specs.declared.fault.InputFault.{InputFault}
-use Rattle.script_lang.specs.declared.fault.InputFault.TheVariants.{NoMemory, BadToml, BadKey, BadCommand, BadWord, OverLimit, BadName}
+use Rattle.script_lang.specs.declared.fault.InputFault.TheVariants.{NoMemory, BadToml, BadKey, BadCommand}
+use Rattle.script_lang.specs.declared.fault.InputFault.TheVariants.{BadWord, OverLimit, BadName}
 use Rattle.script_lang.specs.declared.fault.Limit.{Limit}
-use Rattle.script_lang.specs.declared.fault.Limit.TheVariants.{Text, Functions, Queue, Pool, Btlb, Guests, Blocks, Steps}
+use Rattle.script_lang.specs.declared.fault.Limit.TheVariants.{Text, Functions, Queue, Pool}
+use Rattle.script_lang.specs.declared.fault.Limit.TheVariants.{Btlb, Guests, Blocks, Steps}
 
 abbrev pub limit_text : Limit → List ℕ
 limit_text Text = codes "text"

@@ -26,7 +26,10 @@ pub record IsMade (geometry : Geometry) (old new : Known) : Type 0 where
 
 abbrev pub ComesOfMake : Ending → Geometry → Known → Known → Watched → Type 0
 ComesOfMake Done geometry old new out = IsMade geometry old new × Appends out.before out.after (made_text geometry)
-ComesOfMake (Image (BadSize block)) geometry old new out = (old.size < total geometry) × (block ≡ old.size) × Unchanged old new × (out.after ≡ out.before)
-ComesOfMake Device geometry old new out = (total geometry ≤ old.size) × Rose old.faults new.faults × (out.after ≡ out.before)
-ComesOfMake Write geometry old new out = IsMade geometry old new × HasFailed out × AppendsPrefix out.before out.after (made_text geometry)
+ComesOfMake (Image (BadSize block)) geometry old new out =
+    (old.size < total geometry) × (block ≡ old.size) × Unchanged old new × (out.after ≡ out.before)
+ComesOfMake Device geometry old new out =
+    (total geometry ≤ old.size) × Rose old.faults new.faults × (out.after ≡ out.before)
+ComesOfMake Write geometry old new out =
+    IsMade geometry old new × HasFailed out × AppendsPrefix out.before out.after (made_text geometry)
 ComesOfMake other geometry old new out = ⊥

@@ -1,5 +1,6 @@
--- What `run` promises of a call. Of a source or a sink that does not tell its bytes nothing is said of these; of the others
--- all the same. Where a disk does not tell what it holds, nothing is said of that, nor of what the steps of a run wrote.
+-- What `run` promises of a call. Of a source or a sink that does not tell its bytes nothing is said of these; of the
+-- others all the same. Where a disk does not tell what it holds, nothing is said of that, nor of what the steps of a
+-- run wrote.
 use Rattle.std.specs.Prelude.{◌≡◌, ◌↔◌, ◌<◌, ◌≤◌}
 use Rattle.nesc_base.specs.declared.geometry.Geometry.{Geometry}
 use Rattle.nesc_requests.specs.Script.{Script}
@@ -8,13 +9,17 @@ use Rattle.nesc_base.specs.Disk.{Goes}
 use Rattle.nesc_base.specs.Geometry.{total}
 use Rattle.image_layout.specs.declared.fault.ImageFault.{ImageFault}
 use Rattle.image_layout.specs.declared.fault.ImageFault.TheVariants.{BadSize}
-use Rattle.nesc_monitor.specs.Call.{AreKnownAccepted, AreReadWell, Call, SaysNoCommand, IsKnownRefused, SaysMake, SaysRun, OpensKnown}
-use Rattle.nesc_monitor.specs.Endings.{IsCarriedOut, IsEarly, IsImageRefused, IsInputRefused, IsOfMake, IsOfTexts, IsPastTexts, LeavesAsBefore, LeavesMade, error_line, status_of}
+use Rattle.nesc_monitor.specs.Call.{AreKnownAccepted, AreReadWell, Call, SaysNoCommand}
+use Rattle.nesc_monitor.specs.Call.{IsKnownRefused, SaysMake, SaysRun, OpensKnown}
+use Rattle.nesc_monitor.specs.Endings.{IsCarriedOut, IsEarly, IsImageRefused, IsInputRefused, IsOfMake}
+use Rattle.nesc_monitor.specs.Endings.{IsOfTexts, IsPastTexts, LeavesAsBefore, LeavesMade, error_line, status_of}
 use Rattle.nesc_monitor.specs.Making.{IsMade, made_text}
 use Rattle.nesc_monitor.specs.Reading.{GivesTooMany, Tells}
 use Rattle.nesc_monitor.specs.Running.{FailsSo, IsImageRefusedFor, IsLookedAtLast, WritesFront, WritesTrace}
-use Rattle.nesc_monitor.specs.Texts.{AreAccepted, AreCommandsRefused, HasOneFailed, IsInTurn, IsReadWhole, IsScheduleRefused, IsTakenFromFront, SaysNoScript, SaysNoWords, SaysScript}
-use Rattle.nesc_monitor.specs.Watched.{DiskNeverFell, HasBegun, HasDiskFailed, HasDiskWorked, HasFailed, HasTaken, HasTakenNothing, HasWorked, IsDiskUntouched, IsOnlyRead, IsUntouched, NeverFell}
+use Rattle.nesc_monitor.specs.Texts.{AreAccepted, AreCommandsRefused, HasOneFailed, IsInTurn, IsReadWhole}
+use Rattle.nesc_monitor.specs.Texts.{IsScheduleRefused, IsTakenFromFront, SaysNoScript, SaysNoWords, SaysScript}
+use Rattle.nesc_monitor.specs.Watched.{DiskNeverFell, HasBegun, HasDiskFailed, HasDiskWorked, HasFailed, HasTaken}
+use Rattle.nesc_monitor.specs.Watched.{HasTakenNothing, HasWorked, IsDiskUntouched, IsOnlyRead, IsUntouched, NeverFell}
 use Rattle.nesc_monitor.specs.declared.ending.Ending.{Ending}
 use Rattle.nesc_monitor.specs.declared.ending.Ending.TheVariants as ending
 use Rattle.nesc_monitor.specs.declared.ending.Status.{Status}
@@ -68,8 +73,10 @@ pub record OfRun (status : Status) (outcome : Ending) (call : Call) : Type 0 whe
   pub commands_read : IsPastTexts status → IsReadWhole call.commands
   pub schedule_read : IsPastTexts status → IsReadWhole call.schedule
   pub accepted : IsPastTexts status → AreAccepted call.commands.before call.schedule.before
-  pub commands_refused : (fault : InputFault) → outcome ≡ ending.Commands fault → AreCommandsRefused fault call.commands call.schedule
-  pub schedule_refused : (fault : InputFault) → outcome ≡ ending.Schedule fault → IsScheduleRefused fault call.commands call.schedule
+  pub commands_refused : (fault : InputFault) → outcome ≡ ending.Commands fault
+      → AreCommandsRefused fault call.commands call.schedule
+  pub schedule_refused : (fault : InputFault) → outcome ≡ ending.Schedule fault
+      → IsScheduleRefused fault call.commands call.schedule
   -- the image
   pub image_refused : (fault : ImageFault) → outcome ≡ ending.Image fault → IsImageRefusedFor fault call.image call.out
   pub image_untouched : IsOfTexts status → IsDiskUntouched call.image
@@ -79,9 +86,12 @@ pub record OfRun (status : Status) (outcome : Ending) (call : Call) : Type 0 whe
 
 -- What follows for the command `run` where neither source fails.
 pub record OfRunReadWell (status : Status) (call : Call) : Type 0 where
-  pub commands_refused : (fault : InputFault) → Tells call.commands.before → SaysNoScript call.commands.before fault → IsInputRefused status
-  pub schedule_refused : (script : Script) (fault : InputFault) → Tells call.commands.before → SaysScript call.commands.before script
-      → Tells call.schedule.before → SaysNoWords script.machine.functions call.schedule.before fault → IsInputRefused status
+  pub commands_refused : (fault : InputFault) → Tells call.commands.before
+      → SaysNoScript call.commands.before fault → IsInputRefused status
+  pub schedule_refused : (script : Script) (fault : InputFault) → Tells call.commands.before
+      → SaysScript call.commands.before script
+      → Tells call.schedule.before
+      → SaysNoWords script.machine.functions call.schedule.before fault → IsInputRefused status
   pub image_refused : AreKnownAccepted call → IsKnownRefused call.image.before → HasDiskWorked call.image
       → IsImageRefused status
   pub carried_out : AreKnownAccepted call → OpensKnown call.image.before → HasDiskWorked call.image → HasWorked call.out

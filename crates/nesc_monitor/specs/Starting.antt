@@ -54,9 +54,11 @@ pub record GoesOn (course : Course) (image : List Block) (script : Script) (word
 abbrev pub GoesOnFrom : Course → Known → Script → List Word → Type 0
 GoesOnFrom course image script words = image.tells ≡ true → GoesOn course image.contents script words
 
--- The image was not opened, and still stands for the same. Nothing is written where it is refused before its journal is replayed.
+-- The image was not opened, and still stands for the same. Nothing is written where it is refused before its journal is
+-- replayed.
 pub record StaysShut (old new : Known) : Type 0 where
-  pub stands : old.tells ≡ true → (geometry : Geometry) (kept : List Block) → IsDivided old.contents geometry → IsSettled old
+  pub stands : old.tells ≡ true
+      → (geometry : Geometry) (kept : List Block) → IsDivided old.contents geometry → IsSettled old
       → StandsFor geometry old.contents kept → Leaves (λ image. StandsFor geometry image kept) old new
 
 -- the image is refused for this cause, and nothing went out
@@ -71,16 +73,20 @@ pub record FailsToOpen (old new : Known) (out : Watched) : Type 0 where
   pub silent : HasTakenNothing out
   pub stays : StaysShut old new
 
--- all words were taken and told; or what is told of them was cut short; or a step failed, or the opening; or why none was taken
+-- all words were taken and told; or what is told of them was cut short; or a step failed, or the opening; or why none
+-- was taken
 abbrev pub StartsAndTells : Ending → Known → Known → Script → List Word → Watched → Type 0
 StartsAndTells ending.Done old new script words out =
-    GoesOnFrom (λ setting places state script words. RanToEnd setting places state script words old new out.before out.after) old script words
+    GoesOnFrom (λ setting places state script words.
+    RanToEnd setting places state script words old new out.before out.after) old script words
 StartsAndTells ending.Write old new script words out =
-    HasFailed out × GoesOnFrom (λ setting places state script words. RanCutShort setting places state script words old new out.before out.after) old script words
+    HasFailed out × GoesOnFrom (λ setting places state script words.
+    RanCutShort setting places state script words old new out.before out.after) old script words
 StartsAndTells ending.Device old new script words out =
     Rose old.faults new.faults
     × (FailsToOpen old new out
-    ⊎ GoesOnFrom (λ setting places state script words. RanToFault setting places state script words old new out.before out.after) old script words)
+    ⊎ GoesOnFrom (λ setting places state script words.
+    RanToFault setting places state script words old new out.before out.after) old script words)
 StartsAndTells (ending.Image fault) old new script words out = old.tells ≡ true → IsShutFor fault old new out
 StartsAndTells ending.Memory old new script words out = Unchanged old new × HasTakenNothing out
 StartsAndTells other old new script words out = ⊥

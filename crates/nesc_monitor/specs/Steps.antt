@@ -1,5 +1,6 @@
 -- The steps of a run over a disk, and what is told of them.
-use Rattle.std.specs.Prelude.{◌≡◌, ◌≢◌, ◌⊎◌, ℕ, ◌+◌, ◌≤◌, ◌||◌, true, false, Bool, List, [], ◌∷◌, ◌++◌, length, Option, Some, None, Result, Ok, Err}
+use Rattle.std.specs.Prelude.{◌≡◌, ◌≢◌, ◌⊎◌, ℕ, ◌+◌, ◌≤◌, ◌||◌, true, false, Bool, List}
+use Rattle.std.specs.Prelude.{[], ◌∷◌, ◌++◌, length, Option, Some, None, Result, Ok, Err}
 use Rattle.std.specs.List.{AllByRecursion, count_by}
 use Rattle.nesc_base.specs.Disk.{CouldLeave, Known}
 use Rattle.nesc_base.specs.Fault.{Rose, RoseBy}
@@ -127,9 +128,10 @@ media_in = count_by (λ group. is_failed_line group.line || is_failed_reply grou
 
 -- One word
 
--- The word was taken: from the state in which the session was it is in the next, and its lines are told in this way. The law of
--- misses asks nothing of places yet.
-pub record TellsWordBy (takes : Option (List ℕ) → Option (List ℕ) → List ℕ → Type 0) (setting : Setting) (old : State) (script : Script) (word : Word)
+-- The word was taken: from the state in which the session was it is in the next, and its lines are told in this way.
+-- The law of misses asks nothing of places yet.
+pub record TellsWordBy (takes : Option (List ℕ) → Option (List ℕ) → List ℕ → Type 0) (setting : Setting) (old : State)
+    (script : Script) (word : Word)
     (session : Session) (before disk : Known) (rest : Script) (out told : Out) : Type 0 where
   pub group : Group
   pub next : State
@@ -141,27 +143,36 @@ pub record TellsWordBy (takes : Option (List ℕ) → Option (List ℕ) → List
   pub in_time : IsInTime out group told
   pub tells : takes out.shown told.shown (groups_text (group ∷ []))
 
--- The step was not taken, since the sink failed before it: nothing is told of it, and the session is in the state in which it was.
-pub record LeavesWord (old : State) (placed : Placed) (kept : List Block) (session : Session) (disk : Known) (out told : Out) : Type 0 where
+-- The step was not taken, since the sink failed before it: nothing is told of it, and the session is in the state in
+-- which it was.
+pub record LeavesWord (old : State) (placed : Placed) (kept : List Block) (session : Session) (disk : Known)
+    (out told : Out) : Type 0 where
   pub is_in : IsIn session disk kept old placed
   pub same : Keeps out.shown told.shown
 
--- The disk failed in the step, which was to commit or to restart: all that was told before was handed on, and a stop leaves the
--- files as they were kept or as they were.
-pub record FailsWord (setting : Setting) (old : State) (script : Script) (word : Word) (before disk : Known) (out told : Out) : Type 0 where
+-- The disk failed in the step, which was to commit or to restart: all that was told before was handed on, and a stop
+-- leaves the files as they were kept or as they were.
+pub record FailsWord (setting : Setting) (old : State) (script : Script) (word : Word) (before disk : Known)
+    (out told : Out) : Type 0 where
   pub event : Event
   pub draws : event_of script word ≡ Some event
   pub asks : AsksForCommit setting old event
   pub handed : Keeps out.shown told.handed
   pub rose : Rose before.faults disk.faults
-  pub stops : (image : List Block) → CouldLeave disk image → OpensAs setting.geometry old.kept image ⊎ OpensAs setting.geometry old.now image
+  pub stops : (image : List Block) → CouldLeave disk image
+      → OpensAs setting.geometry old.kept image ⊎ OpensAs setting.geometry old.now image
 
-abbrev pub ComesOfWord : Setting → State → Placed → List Block → Script → Word → Session → Known → Known → Script → Out → Out → Result (Unit {0}) RunFault → Type 0
-ComesOfWord setting old placed kept script word session before disk rest out told (Ok done) = TellsWordBy Appends setting old script word session before disk rest out told
+abbrev pub ComesOfWord : Setting → State → Placed → List Block → Script → Word → Session → Known → Known → Script → Out
+    → Out → Result (Unit {0}) RunFault → Type 0
+ComesOfWord setting old placed kept script word session before disk rest out told (Ok done) =
+    TellsWordBy Appends setting old script word session before disk rest out told
 ComesOfWord setting old placed kept script word session before disk rest out told (Err (run.Write fault)) =
-    LeavesWord old placed kept session disk out told ⊎ TellsWordBy AppendsPrefix setting old script word session before disk rest out told
-ComesOfWord setting old placed kept script word session before disk rest out told (Err (run.Step (step.Disk fault))) = FailsWord setting old script word before disk out told
-ComesOfWord setting old placed kept script word session before disk rest out told (Err (run.Step (step.Image fault))) = ⊥
+    LeavesWord old placed kept session disk out told
+    ⊎ TellsWordBy AppendsPrefix setting old script word session before disk rest out told
+ComesOfWord setting old placed kept script word session before disk rest out told (Err (run.Step (step.Disk fault))) =
+    FailsWord setting old script word before disk out told
+ComesOfWord setting old placed kept script word session before disk rest out told (Err (run.Step (step.Image fault))) =
+    ⊥
 
 -- What a run comes to from a state on, by what a disk and a sink were before and are after
 
@@ -171,7 +182,8 @@ pub record KeepsAs (geometry : Geometry) (files : Files) (disk : Known) : Type 0
   pub stops : (image : List Block) → CouldLeave disk image → OpensAs geometry files image
 
 -- All words were taken, and the sink took their trace. The disk has kept the files that were kept last.
-pub record RanToEnd (setting : Setting) (places : Places) (old : State) (script : Script) (words : List Word) (before after : Known) (taken told : Option (List ℕ)) : Type 0 where
+pub record RanToEnd (setting : Setting) (places : Places) (old : State) (script : Script) (words : List Word)
+    (before after : Known) (taken told : Option (List ℕ)) : Type 0 where
   pub groups : List Group
   pub end : State
   pub rest : Script
@@ -184,9 +196,10 @@ pub record RanToEnd (setting : Setting) (places : Places) (old : State) (script 
 abbrev pub IsLast : List Word → List Word → List ℕ → Type 0
 IsLast words left last = (last ≡ []) ⊎ ((left ≡ []) × (last ≡ done_text (length words)))
 
--- Some of the words were taken, and the sink took a front of their lines: all lines of the early ones, and behind these at most one
--- word has changed what the disk keeps.
-pub record RanCutShort (setting : Setting) (places : Places) (old : State) (script : Script) (words : List Word) (before after : Known) (taken told : Option (List ℕ)) : Type 0 where
+-- Some of the words were taken, and the sink took a front of their lines: all lines of the early ones, and behind these
+-- at most one word has changed what the disk keeps.
+pub record RanCutShort (setting : Setting) (places : Places) (old : State) (script : Script) (words : List Word)
+    (before after : Known) (taken told : Option (List ℕ)) : Type 0 where
   pub done : List Word
   pub left : List Word
   pub early : List Group
@@ -203,9 +216,10 @@ pub record RanCutShort (setting : Setting) (places : Places) (old : State) (scri
   pub keeps : KeepsAs setting.geometry end.kept after
   pub media : RoseBy (media_in (early ++ more)) before.faults after.faults
 
--- Some of the words were taken, and the sink took all of their lines. The step of the next one makes a commit or is a restart, and
--- the disk failed in it.
-pub record RanToFault (setting : Setting) (places : Places) (old : State) (script : Script) (words : List Word) (before after : Known) (taken told : Option (List ℕ)) : Type 0 where
+-- Some of the words were taken, and the sink took all of their lines. The step of the next one makes a commit or is a
+-- restart, and the disk failed in it.
+pub record RanToFault (setting : Setting) (places : Places) (old : State) (script : Script) (words : List Word)
+    (before after : Known) (taken told : Option (List ℕ)) : Type 0 where
   pub done : List Word
   pub word : Word
   pub left : List Word
@@ -218,11 +232,16 @@ pub record RanToFault (setting : Setting) (places : Places) (old : State) (scrip
   pub draws : event_of rest word ≡ Some event
   pub asks : AsksForCommit setting end event
   pub tells : Appends taken told (groups_text groups)
-  pub stops : (image : List Block) → CouldLeave after image → OpensAs setting.geometry end.kept image ⊎ OpensAs setting.geometry end.now image
+  pub stops : (image : List Block) → CouldLeave after image
+      → OpensAs setting.geometry end.kept image ⊎ OpensAs setting.geometry end.now image
   pub media : RoseBy (media_in groups + 1) before.faults after.faults
 
-abbrev pub RunsBy : Result (Unit {0}) RunFault → Setting → Places → State → Script → List Word → Known → Known → Option (List ℕ) → Option (List ℕ) → Type 0
-RunsBy (Ok done) setting places old script words before after taken told = RanToEnd setting places old script words before after taken told
-RunsBy (Err (run.Write fault)) setting places old script words before after taken told = RanCutShort setting places old script words before after taken told
-RunsBy (Err (run.Step (step.Disk fault))) setting places old script words before after taken told = RanToFault setting places old script words before after taken told
+abbrev pub RunsBy : Result (Unit {0}) RunFault → Setting → Places → State → Script → List Word → Known → Known
+    → Option (List ℕ) → Option (List ℕ) → Type 0
+RunsBy (Ok done) setting places old script words before after taken told =
+    RanToEnd setting places old script words before after taken told
+RunsBy (Err (run.Write fault)) setting places old script words before after taken told =
+    RanCutShort setting places old script words before after taken told
+RunsBy (Err (run.Step (step.Disk fault))) setting places old script words before after taken told =
+    RanToFault setting places old script words before after taken told
 RunsBy (Err (run.Step (step.Image fault))) setting places old script words before after taken told = ⊥

@@ -43,7 +43,8 @@ pub record AreAccepted (commands schedule : Option (List ℕ)) : Type 0 where
 abbrev pub IsRefusal : Ending → List ℕ → List ℕ → Type 0
 IsRefusal Memory commands schedule = Unit {0}
 IsRefusal (Commands fault) commands schedule = commands_of commands ≡ Err fault
-IsRefusal (Schedule fault) commands schedule = (script : Script) × (commands_of commands ≡ Ok script) × (schedule_of script.machine.functions schedule ≡ Err fault)
+IsRefusal (Schedule fault) commands schedule =
+    (script : Script) × (commands_of commands ≡ Ok script) × (schedule_of script.machine.functions schedule ≡ Err fault)
 IsRefusal ending commands schedule = ⊥
 
 -- How far the two were read
@@ -65,16 +66,18 @@ pub record AreCommandsRefused (fault : InputFault) (commands schedule : Watched)
   pub refused : SaysNoScript commands.before fault
   pub found : (GivesTooMany commands.before × IsUntouched schedule) ⊎ (IsReadWhole commands × IsReadWhole schedule)
 
--- The schedule is refused: too long for any machine, which is found while it is read; or for the machine of the commands, once
--- these are accepted.
+-- The schedule is refused: too long for any machine, which is found while it is read; or for the machine of the
+-- commands, once these are accepted.
 pub record IsScheduleRefused (fault : InputFault) (commands schedule : Watched) : Type 0 where
   pub commands_read : IsReadWhole commands
   pub found : (GivesTooMany schedule.before × ((functions : ℕ) → SaysNoWords functions schedule.before fault))
-      ⊎ ((script : Script) × SaysScript commands.before script × SaysNoWords script.machine.functions schedule.before fault × IsReadWhole schedule)
+      ⊎ ((script : Script) × SaysScript commands.before script
+      × SaysNoWords script.machine.functions schedule.before fault × IsReadWhole schedule)
 
 -- the commands' source failed, and the schedule's was not asked, or the commands were read and the schedule's failed
 abbrev pub HasOneFailed : Watched → Watched → Type 0
-HasOneFailed commands schedule = (HasFailed commands × IsUntouched schedule) ⊎ (IsReadWhole commands × HasFailed schedule)
+HasOneFailed commands schedule =
+    (HasFailed commands × IsUntouched schedule) ⊎ (IsReadWhole commands × HasFailed schedule)
 
 -- why the texts were refused, or not read
 abbrev pub AreRefusedFor : Ending → Watched → Watched → Type 0

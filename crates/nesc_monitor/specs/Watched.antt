@@ -5,8 +5,8 @@ use Rattle.nesc_base.specs.Fault.{Rose}
 use Rattle.nesc_base.specs.Sink.{Appends}
 use Rattle.text_kit.specs.Known.{AppendsPrefix}
 
--- The bytes that a source had left, or a sink had taken, and has now, where it tells them; how often it had failed and has
--- failed now; and that it is the very value that it was, as it is where nothing was read of it, or written to it.
+-- The bytes that a source had left, or a sink had taken, and has now, where it tells them; how often it had failed and
+-- has failed now; and that it is the very value that it was, as it is where nothing was read of it, or written to it.
 pub record Watched : Type 1 where
   pub before : Option (List ℕ)
   pub after : Option (List ℕ)
@@ -16,7 +16,13 @@ pub record Watched : Type 1 where
 
 -- such a thing over a call, by what it tells of its bytes and its failures
 abbrev pub watch : {T : Type 0} → (T → Option (List ℕ)) → (T → ℕ) → T → T → Watched
-watch bytes faults old new = record { before = bytes old; after = bytes new; faults_before = faults old; faults_after = faults new; same = new ≡ old }
+watch bytes faults old new = record {
+  before = bytes old;
+  after = bytes new;
+  faults_before = faults old;
+  faults_after = faults new;
+  same = new ≡ old;
+}
 
 -- it failed in the call
 abbrev pub HasFailed : Watched → Type 0
@@ -47,8 +53,8 @@ HasBegun text sink = AppendsPrefix sink.before sink.after text
 abbrev pub HasTakenNothing : Watched → Type 0
 HasTakenNothing sink = sink.after ≡ sink.before
 
--- What is known of a disk before and after; that what else stays of it has stayed; and that it is the very value that it
--- was, as it is where it was neither read nor written nor synced.
+-- What is known of a disk before and after; that what else stays of it has stayed; and that it is the very value that
+-- it was, as it is where it was neither read nor written nor synced.
 pub record WatchedDisk : Type 1 where
   pub before : Known
   pub after : Known
@@ -56,7 +62,8 @@ pub record WatchedDisk : Type 1 where
   pub same : Type 0
 
 abbrev pub watch_disk : {D : Type 0} → (D → Known) → (D → D → Type 0) → D → D → WatchedDisk
-watch_disk known keeps old new = record { before = known old; after = known new; stays = keeps old new; same = new ≡ old }
+watch_disk known keeps old new =
+    record { before = known old; after = known new; stays = keeps old new; same = new ≡ old }
 
 abbrev pub HasDiskFailed : WatchedDisk → Type 0
 HasDiskFailed disk = Rose disk.before.faults disk.after.faults

@@ -17,13 +17,19 @@ make_with blocks slack = None
 
 -- an image of so many data blocks, with so much slack
 abbrev pub make_of : List ℕ → List ℕ → Option Command
-make_of blocks slack = make_with (between least_blocks most_blocks (number_of blocks)) (between least_slack most_slack (number_of slack))
+make_of blocks slack =
+    make_with (between least_blocks most_blocks (number_of blocks)) (between least_slack most_slack (number_of slack))
+
+-- the slack where the words do not say it: the least
+abbrev pub default_slack : List ℕ
+default_slack = codes "64"
 
 -- `run`, or `make --blocks N`, or `make --blocks N --slack S`; without `--slack` the slack is the least
 abbrev pub command_of : List (List ℕ) → Option Command
 command_of (name ∷ []) = if bytes_eq name (codes "run") then Some Run else None
 command_of (name ∷ key ∷ blocks ∷ []) =
-    if bytes_eq name (codes "make") && bytes_eq key (codes "--blocks") then make_of blocks (codes "64") else None
+    if bytes_eq name (codes "make") && bytes_eq key (codes "--blocks") then make_of blocks default_slack else None
 command_of (name ∷ key ∷ blocks ∷ other ∷ slack ∷ []) =
-    if bytes_eq name (codes "make") && bytes_eq key (codes "--blocks") && bytes_eq other (codes "--slack") then make_of blocks slack else None
+    if bytes_eq name (codes "make") && bytes_eq key (codes "--blocks") && bytes_eq other (codes "--slack")
+    then make_of blocks slack else None
 command_of words = None

@@ -26,8 +26,8 @@ pub enum Status {
     Memory,
     /// A text that was read is refused.
     Input,
-    /// The image is refused, or the disk is too small for it. Over a disk that does not tell what it holds this may also
-    /// come of a restart, behind lines of steps.
+    /// The image is refused, or the disk is too small for it. Over a disk that does not tell what it holds this may
+    /// also come of a restart, behind lines of steps.
     Image,
     /// The disk of the image failed.
     Device,
@@ -166,7 +166,8 @@ fn tell_owner<E: Sink>(err: &mut E, file: FileNo, v: u32) -> Result<(), WriteFau
 
 /// Writes the line that says what is wrong with an image at one of its blocks.
 fn tell_place<E: Sink>(err: &mut E, kind: &[u8], block: u32) -> Result<(), WriteFault>
-    ensures { Writes E.taken E.faults E.lent err.old err.new (codes "nesc: image " ++ kind.now ++ decimal block ++ codes "\n") result }
+    ensures { Writes E.taken E.faults E.lent err.old err.new
+        (codes "nesc: image " ++ kind.now ++ decimal block ++ codes "\n") result }
 {
     let pieces = [
         Piece::Text(b"nesc: image "),

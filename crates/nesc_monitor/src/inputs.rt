@@ -30,7 +30,8 @@ pub fn tell_input<E: Sink>(err: &mut E, text: &[u8], fault: InputFault) -> Resul
 
 /// Writes the line of a cause that has no place.
 fn tell_kind<'a, E: Sink>(err: &mut E, text: &'a [u8], kind: &'a [u8]) -> Result<(), WriteFault>
-    ensures { Writes E.taken E.faults E.lent err.old err.new (codes "nesc: input " ++ text.now ++ codes " " ++ kind.now ++ codes "\n") result }
+    ensures { Writes E.taken E.faults E.lent err.old err.new
+        (codes "nesc: input " ++ text.now ++ codes " " ++ kind.now ++ codes "\n") result }
 {
     let pieces = [
         Piece::Text(b"nesc: input "),
@@ -51,7 +52,8 @@ fn tell_place<'a, E: Sink>(
     second: u64,
 ) -> Result<(), WriteFault>
     ensures { Writes E.taken E.faults E.lent err.old err.new
-        (codes "nesc: input " ++ text.now ++ codes " " ++ (kind.now ++ decimal first ++ codes " " ++ decimal second) ++ codes "\n") result }
+        (codes "nesc: input " ++ text.now ++ codes " "
+        ++ (kind.now ++ decimal first ++ codes " " ++ decimal second) ++ codes "\n") result }
 {
     let pieces = [
         Piece::Text(b"nesc: input "),

@@ -48,10 +48,13 @@ fn write_out<D: Disk, K: Sink>(
     out: &mut K,
 ) -> Result<(), RunFault>
     requires { IsUnderWay session.old accepted.old.commands spare.old (D.known image.old) }
-    ensures runs { (D.known image.old).tells ≡ true → (kept : List Block) (state : State) (placed : Placed) → IsIn session.old (D.known image.old) kept state placed
-        → RunsBy result session.old.setting placed.now state accepted.old.commands.script accepted.old.schedule (D.known image.old) (D.known image.new)
+    ensures runs { (D.known image.old).tells ≡ true
+        → (kept : List Block) (state : State) (placed : Placed) → IsIn session.old (D.known image.old) kept state placed
+        → RunsBy result session.old.setting placed.now state accepted.old.commands.script accepted.old.schedule
+        (D.known image.old) (D.known image.new)
         (K.taken out.old) (K.taken out.new) }
-    ensures device { HasCause (D.known image.old).faults (D.known image.new).faults (IsErrOf result (run.Step (step.Disk _))) }
+    ensures device { HasCause (D.known image.old).faults (D.known image.new).faults
+        (IsErrOf result (run.Step (step.Disk _))) }
     ensures write { HasCause (K.faults out.old) (K.faults out.new) (IsErrOf result (run.Write _)) }
     ensures goes { Goes (D.known image.old) (D.known image.new) }
     ensures keeps { D.keeps image.old image.new }
@@ -76,10 +79,12 @@ fn open_and_step<D: Disk, K: Sink>(
 ) -> Ending
     requires untouched { accepted.commands ≡ untouched accepted.commands.script }
     requires machine { IsMachine accepted.commands.script.machine }
-    ensures steps { StartsAndTells result (D.known image.old) (D.known image.new) accepted.commands.script accepted.schedule (watch K.taken K.faults out.old out.new) }
+    ensures steps { StartsAndTells result (D.known image.old)
+        (D.known image.new) accepted.commands.script accepted.schedule (watch K.taken K.faults out.old out.new) }
     ensures goes { Goes (D.known image.old) (D.known image.new) }
     ensures keeps { D.keeps image.old image.new }
-    ensures never_fall { ((D.known image.old).faults ≤ (D.known image.new).faults) × (K.faults out.old ≤ K.faults out.new) }
+    ensures never_fall { ((D.known image.old).faults ≤ (D.known image.new).faults)
+        × (K.faults out.old ≤ K.faults out.new) }
 {
     let mut accepted = accepted;
     let machine = accepted.commands.machine();
@@ -119,8 +124,10 @@ fn run_texts<S: Source, D: Disk, K: Sink>(
         (watch S.left S.faults schedule.old schedule.new)
         (watch_disk D.known D.keeps image.old image.new)
         (watch K.taken K.faults out.old out.new) }
-    ensures taken { IsTakenFromFront (watch S.left S.faults commands.old commands.new) × IsTakenFromFront (watch S.left S.faults schedule.old schedule.new) }
-    ensures never_fall { (S.faults commands.old ≤ S.faults commands.new) × (S.faults schedule.old ≤ S.faults schedule.new)
+    ensures taken { IsTakenFromFront (watch S.left S.faults commands.old commands.new)
+        × IsTakenFromFront (watch S.left S.faults schedule.old schedule.new) }
+    ensures never_fall { (S.faults commands.old ≤ S.faults commands.new)
+        × (S.faults schedule.old ≤ S.faults schedule.new)
         × ((D.known image.old).faults ≤ (D.known image.new).faults) × (K.faults out.old ≤ K.faults out.new) }
     ensures goes { Goes (D.known image.old) (D.known image.new) }
     ensures keeps { D.keeps image.old image.new }
@@ -146,11 +153,13 @@ fn tell_made<K: Sink>(out: &mut K, total: u32) -> Result<(), WriteFault>
 /// Carries out the command `make`.
 fn make_image<D: Disk, K: Sink>(image: &mut D, geometry: Geometry, out: &mut K) -> Ending
     requires { IsGeometry geometry }
-    ensures makes { ComesOfMake result geometry (D.known image.old) (D.known image.new) (watch K.taken K.faults out.old out.new) }
+    ensures makes { ComesOfMake result geometry (D.known image.old) (D.known image.new)
+        (watch K.taken K.faults out.old out.new) }
     ensures any_moment { LeavesMade geometry (D.known image.old) (D.known image.new) }
     ensures goes { Goes (D.known image.old) (D.known image.new) }
     ensures keeps { D.keeps image.old image.new }
-    ensures never_fall { ((D.known image.old).faults ≤ (D.known image.new).faults) × (K.faults out.old ≤ K.faults out.new) }
+    ensures never_fall { ((D.known image.old).faults ≤ (D.known image.new).faults)
+        × (K.faults out.old ≤ K.faults out.new) }
 {
     let total = match make(image, geometry) {
         Ok(total) => total,
@@ -178,8 +187,10 @@ fn carry_out<S: Source, K: Sink, D: Disk>(
         (watch_disk D.known D.keeps image.old image.new)
         (watch K.taken K.faults out.old out.new) }
     ensures any_moment { AtAnyMoment (command_of (map string_bytes words.now)) (D.known image.old) (D.known image.new) }
-    ensures taken { IsTakenFromFront (watch S.left S.faults commands.old commands.new) × IsTakenFromFront (watch S.left S.faults schedule.old schedule.new) }
-    ensures never_fall { (S.faults commands.old ≤ S.faults commands.new) × (S.faults schedule.old ≤ S.faults schedule.new)
+    ensures taken { IsTakenFromFront (watch S.left S.faults commands.old commands.new)
+        × IsTakenFromFront (watch S.left S.faults schedule.old schedule.new) }
+    ensures never_fall { (S.faults commands.old ≤ S.faults commands.new)
+        × (S.faults schedule.old ≤ S.faults schedule.new)
         × ((D.known image.old).faults ≤ (D.known image.new).faults) × (K.faults out.old ≤ K.faults out.new) }
     ensures goes { Goes (D.known image.old) (D.known image.new) }
     ensures keeps { D.keeps image.old image.new }
@@ -194,9 +205,9 @@ fn carry_out<S: Source, K: Sink, D: Disk>(
 /// Carries out the command that the words of the command line name.
 ///
 /// `run` reads the commands file and then the schedule, opens `image` once both are accepted, takes the steps of the
-/// schedule from its files on, and writes the trace to `out`. The image is changed: at the end it has the files that were
-/// kept last, whatever a stop leaves then. Where a text is refused or a source fails nothing is asked of it. Lines are
-/// gathered, and handed on before each step that may change what the image keeps.
+/// schedule from its files on, and writes the trace to `out`. The image is changed: at the end it has the files that
+/// were kept last, whatever a stop leaves then. Where a text is refused or a source fails nothing is asked of it. Lines
+/// are gathered, and handed on before each step that may change what the image keeps.
 ///
 /// `make --blocks N` and `make --blocks N --slack S` make an image of no files on `image`, over whatever that held,
 /// and write to `out` how many blocks it has.

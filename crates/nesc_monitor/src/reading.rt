@@ -46,7 +46,8 @@ pub fn read_text<S: Source>(alloc: Global, source: &mut S) -> Result<Vec<u8>, Re
     ensures whole { IfOk result (λ text. GivesAll text.items (S.left source.old) (S.left source.new)) }
     ensures within { IfOk result (λ text. length text.items ≤ most_bytes) }
     ensures too_long { result ≡ Err ReadStop.TooLong → GivesTooMany (S.left source.old) }
-    ensures taken { ¬ Rose (S.faults source.old) (S.faults source.new) → TakesFront (S.left source.old) (S.left source.new) }
+    ensures taken { ¬ Rose (S.faults source.old) (S.faults source.new)
+        → TakesFront (S.left source.old) (S.left source.new) }
     ensures cause { HasCause (S.faults source.old) (S.faults source.new) (result ≡ Err ReadStop.Fault) }
 {
     let mut chunk = [0; CHUNK_BYTES];

@@ -15,7 +15,8 @@ ghost use Rattle.nesc_session.specs.Stepping.{MayStep};
 ghost use Rattle.nesc_session.specs.declared.fault.StepFault.TheVariants as step;
 ghost use Rattle.text_kit.specs.Buffered.{lent_name, pending_of, shown, sink_of};
 ghost use Rattle.text_kit.specs.Known.{Keeps};
-ghost use Rattle.nesc_monitor.specs.Steps.{ChangesNothing, ComesBack, ComesOfWord, IsUnderWay, MayGiveBack, RunsBy, out_of, with_back};
+ghost use Rattle.nesc_monitor.specs.Steps.{ChangesNothing, ComesBack, ComesOfWord, IsUnderWay};
+ghost use Rattle.nesc_monitor.specs.Steps.{MayGiveBack, RunsBy, out_of, with_back};
 ghost use Rattle.nesc_monitor.specs.declared.fault.RunFault.TheVariants as run;
 
 use crate::fault::RunFault;
@@ -31,11 +32,13 @@ fn draw(commands: &mut Commands, spare: &mut Buffers, word: Word) -> Option<Even
     requires some { 1 ≤ spare.old.count }
     ensures event { result ≡ event_of commands.old.script word }
     ensures rest { IfSome result (λ event. commands.new.script ≡ without_drawn commands.old.script event) }
-    ensures buffers { IfSome result (λ event. spare.new.count + commands.new.kept + event_buffers event ≡ spare.old.count + commands.old.kept) }
+    ensures buffers { IfSome result (λ event.
+        spare.new.count + commands.new.kept + event_buffers event ≡ spare.old.count + commands.old.kept) }
     ensures none { IfNone result ((commands.new ≡ commands.old) × (spare.new ≡ spare.old)) }
     ensures out { IfSome result (λ event. MayGiveBack commands.new event) }
     ensures fits { IfSome result MayStep }
-    ensures few { commands.old.kept ≤ commands.old.script.machine.functions → commands.new.kept ≤ commands.new.script.machine.functions }
+    ensures few { commands.old.kept ≤ commands.old.script.machine.functions
+        → commands.new.kept ≤ commands.new.script.machine.functions }
     ensures room { spare.new.room ≡ spare.old.room }
 {
     match word {
@@ -56,7 +59,8 @@ fn hand_back(commands: &mut Commands, spare: &mut Buffers, word: Word, outcome: 
     requires few { commands.old.kept ≤ commands.old.script.machine.functions }
     requires room { spare.old.count + outcome_buffers outcome ≤ spare.old.room }
     ensures script { commands.new.script ≡ with_back commands.old.script word outcome.answer }
-    ensures buffers { spare.new.count + commands.new.kept ≡ spare.old.count + commands.old.kept + outcome_buffers outcome }
+    ensures buffers { spare.new.count + commands.new.kept ≡ spare.old.count + commands.old.kept
+        + outcome_buffers outcome }
     ensures few { commands.new.kept ≤ commands.new.script.machine.functions }
     ensures room { spare.new.room ≡ spare.old.room }
 {
@@ -104,8 +108,8 @@ fn hand_on_before<K: Sink>(
     Ok(())
 }
 
-/// Takes a word, and then writes its lines. All that was told before is handed on first where the step may change what the
-/// disk keeps.
+/// Takes a word, and then writes its lines. All that was told before is handed on first where the step may change what
+/// the disk keeps.
 fn take_word<D: Disk, K: Sink>(
     session: &mut Session,
     commands: &mut Commands,
@@ -116,15 +120,19 @@ fn take_word<D: Disk, K: Sink>(
 ) -> Result<(), RunFault>
     requires under_way { IsUnderWay session.old commands.old spare.old (D.known disk.old) }
     ensures under_way { OnOk result (IsUnderWay session.new commands.new spare.new (D.known disk.new)) }
-    ensures comes { (D.known disk.old).tells ≡ true → (kept : List Block) (state : State) (placed : Placed) → IsIn session.old (D.known disk.old) kept state placed
-        → ComesOfWord session.old.setting state placed kept commands.old.script word session.new (D.known disk.old) (D.known disk.new) commands.new.script
+    ensures comes { (D.known disk.old).tells ≡ true
+        → (kept : List Block) (state : State) (placed : Placed) → IsIn session.old (D.known disk.old) kept state placed
+        → ComesOfWord session.old.setting state placed kept commands.old.script word session.new (D.known disk.old)
+        (D.known disk.new) commands.new.script
         (out_of K.taken buffered.old) (out_of K.taken buffered.new) result }
     ensures setting { session.new.setting ≡ session.old.setting }
     ensures rests { IsErrOf result (run.Write _) → Rests session.new (D.known disk.new) }
     ensures grows { Grows (K.taken (sink_of buffered.old)) (K.taken (sink_of buffered.new)) }
     ensures lent { lent_name buffered.new ≡ lent_name buffered.old }
-    ensures device { HasCause (D.known disk.old).faults (D.known disk.new).faults (IsErrOf result (run.Step (step.Disk _))) }
-    ensures write { HasCause (K.faults (sink_of buffered.old)) (K.faults (sink_of buffered.new)) (IsErrOf result (run.Write _)) }
+    ensures device { HasCause (D.known disk.old).faults (D.known disk.new).faults
+        (IsErrOf result (run.Step (step.Disk _))) }
+    ensures write { HasCause (K.faults (sink_of buffered.old)) (K.faults (sink_of buffered.new))
+        (IsErrOf result (run.Write _)) }
     ensures goes { Goes (D.known disk.old) (D.known disk.new) }
     ensures keeps { D.keeps disk.old disk.new }
 {
@@ -138,7 +146,8 @@ fn take_word<D: Disk, K: Sink>(
     Ok(told?)
 }
 
-/// Takes the words of a schedule and writes the lines of each behind it and `done N` at the end, all of which is handed on.
+/// Takes the words of a schedule and writes the lines of each behind it and `done N` at the end, all of which is handed
+/// on.
 pub fn take_words<D: Disk, K: Sink>(
     session: &mut Session,
     commands: &mut Commands,
@@ -149,12 +158,16 @@ pub fn take_words<D: Disk, K: Sink>(
 ) -> Result<(), RunFault>
     requires under_way { IsUnderWay session.old commands.old spare.old (D.known disk.old) }
     requires empty { pending_of buffered.old ≡ [] }
-    ensures runs { (D.known disk.old).tells ≡ true → (kept : List Block) (state : State) (placed : Placed) → IsIn session.old (D.known disk.old) kept state placed
-        → RunsBy result session.old.setting placed.now state commands.old.script schedule.old (D.known disk.old) (D.known disk.new)
+    ensures runs { (D.known disk.old).tells ≡ true
+        → (kept : List Block) (state : State) (placed : Placed) → IsIn session.old (D.known disk.old) kept state placed
+        → RunsBy result session.old.setting placed.now state commands.old.script schedule.old
+        (D.known disk.old) (D.known disk.new)
         (K.taken (sink_of buffered.old)) (K.taken (sink_of buffered.new)) }
     ensures lent { lent_name buffered.new ≡ lent_name buffered.old }
-    ensures device { HasCause (D.known disk.old).faults (D.known disk.new).faults (IsErrOf result (run.Step (step.Disk _))) }
-    ensures write { HasCause (K.faults (sink_of buffered.old)) (K.faults (sink_of buffered.new)) (IsErrOf result (run.Write _)) }
+    ensures device { HasCause (D.known disk.old).faults (D.known disk.new).faults
+        (IsErrOf result (run.Step (step.Disk _))) }
+    ensures write { HasCause (K.faults (sink_of buffered.old)) (K.faults (sink_of buffered.new))
+        (IsErrOf result (run.Write _)) }
     ensures goes { Goes (D.known disk.old) (D.known disk.new) }
     ensures keeps { D.keeps disk.old disk.new }
 {

@@ -5,7 +5,8 @@ ghost use Rattle.script_lang.specs.Left.{untouched};
 ghost use Rattle.script_lang.specs.Limits.{most_bytes};
 ghost use Rattle.script_lang.specs.ScheduleText.{schedule_of};
 ghost use Rattle.nesc_monitor.specs.Reading.{GivesAll};
-ghost use Rattle.nesc_monitor.specs.Texts.{IsReadWhole, IsRefusal, AreRefusedFor, IsTakenFromFront, SaysScript, SaysWords};
+ghost use Rattle.nesc_monitor.specs.Texts.{IsReadWhole, IsRefusal, AreRefusedFor};
+ghost use Rattle.nesc_monitor.specs.Texts.{IsTakenFromFront, SaysScript, SaysWords};
 ghost use Rattle.nesc_monitor.specs.Watched.{watch};
 
 use crate::ending::Ending;
@@ -38,14 +39,19 @@ pub struct Accepted {
 
 /// Reads the commands file and then the schedule, each to its end.
 fn read_texts<S: Source>(alloc: Global, commands: &mut S, schedule: &mut S) -> Result<Texts, Ending>
-    ensures commands { IfOk result (λ texts. GivesAll texts.commands.items (S.left commands.old) (S.left commands.new)) }
-    ensures schedule { IfOk result (λ texts. GivesAll texts.schedule.items (S.left schedule.old) (S.left schedule.new)) }
-    ensures within { IfOk result (λ texts. (length texts.commands.items ≤ most_bytes) × (length texts.schedule.items ≤ most_bytes)) }
+    ensures commands { IfOk result (λ texts.
+        GivesAll texts.commands.items (S.left commands.old) (S.left commands.new)) }
+    ensures schedule { IfOk result (λ texts.
+        GivesAll texts.schedule.items (S.left schedule.old) (S.left schedule.new)) }
+    ensures within { IfOk result (λ texts. (length texts.commands.items ≤ most_bytes)
+        × (length texts.schedule.items ≤ most_bytes)) }
     ensures refused { IfErr result (λ ending. AreRefusedFor ending
         (watch S.left S.faults commands.old commands.new)
         (watch S.left S.faults schedule.old schedule.new)) }
-    ensures taken { IsTakenFromFront (watch S.left S.faults commands.old commands.new) × IsTakenFromFront (watch S.left S.faults schedule.old schedule.new) }
-    ensures never_fall { (S.faults commands.old ≤ S.faults commands.new) × (S.faults schedule.old ≤ S.faults schedule.new) }
+    ensures taken { IsTakenFromFront (watch S.left S.faults commands.old commands.new)
+        × IsTakenFromFront (watch S.left S.faults schedule.old schedule.new) }
+    ensures never_fall { (S.faults commands.old ≤ S.faults commands.new)
+        × (S.faults schedule.old ≤ S.faults schedule.new) }
 {
     let commands = match read_text(alloc, commands) {
         Ok(text) => text,
@@ -65,7 +71,8 @@ fn read_texts<S: Source>(alloc: Global, commands: &mut S, schedule: &mut S) -> R
 /// What the texts say. The commands are judged first.
 fn judge(alloc: Global, texts: &Texts) -> Result<Accepted, Ending>
     ensures commands { IfOk result (λ accepted. commands_of texts.now.commands.items ≡ Ok accepted.commands.script) }
-    ensures schedule { IfOk result (λ accepted. schedule_of accepted.commands.script.machine.functions texts.now.schedule.items ≡ Ok accepted.schedule) }
+    ensures schedule { IfOk result (λ accepted.
+        schedule_of accepted.commands.script.machine.functions texts.now.schedule.items ≡ Ok accepted.schedule) }
     ensures untouched { IfOk result (λ accepted. accepted.commands ≡ untouched accepted.commands.script) }
     ensures machine { IfOk result (λ accepted. IsMachine accepted.commands.script.machine) }
     ensures refusal { IfErr result (λ ending. IsRefusal ending texts.now.commands.items texts.now.schedule.items) }
@@ -91,15 +98,19 @@ pub fn read_script<S: Source>(
     schedule: &mut S,
 ) -> Result<Accepted, Ending>
     ensures commands { IfOk result (λ accepted. SaysScript (S.left commands.old) accepted.commands.script) }
-    ensures schedule { IfOk result (λ accepted. SaysWords accepted.commands.script.machine.functions (S.left schedule.old) accepted.schedule) }
-    ensures read { OnOk result (IsReadWhole (watch S.left S.faults commands.old commands.new) × IsReadWhole (watch S.left S.faults schedule.old schedule.new)) }
+    ensures schedule { IfOk result (λ accepted.
+        SaysWords accepted.commands.script.machine.functions (S.left schedule.old) accepted.schedule) }
+    ensures read { OnOk result (IsReadWhole (watch S.left S.faults commands.old commands.new)
+        × IsReadWhole (watch S.left S.faults schedule.old schedule.new)) }
     ensures untouched { IfOk result (λ accepted. accepted.commands ≡ untouched accepted.commands.script) }
     ensures machine { IfOk result (λ accepted. IsMachine accepted.commands.script.machine) }
     ensures refused { IfErr result (λ ending. AreRefusedFor ending
         (watch S.left S.faults commands.old commands.new)
         (watch S.left S.faults schedule.old schedule.new)) }
-    ensures taken { IsTakenFromFront (watch S.left S.faults commands.old commands.new) × IsTakenFromFront (watch S.left S.faults schedule.old schedule.new) }
-    ensures never_fall { (S.faults commands.old ≤ S.faults commands.new) × (S.faults schedule.old ≤ S.faults schedule.new) }
+    ensures taken { IsTakenFromFront (watch S.left S.faults commands.old commands.new)
+        × IsTakenFromFront (watch S.left S.faults schedule.old schedule.new) }
+    ensures never_fall { (S.faults commands.old ≤ S.faults commands.new)
+        × (S.faults schedule.old ≤ S.faults schedule.new) }
 {
     match read_texts(alloc, commands, schedule) {
         Ok(texts) => judge(alloc, &texts),

@@ -8,6 +8,9 @@ ghost use Rattle.nesc_monitor.specs.declared.words.Command.TheVariants.{Make};
 use nesc_base::Geometry;
 use text_kit::number;
 
+/// How many data blocks may change between two commits where the words do not say it: the fewest.
+const DEFAULT_SLACK: &[u8] = b"64";
+
 /// A command of the program.
 #[derive(Clone, Copy, Debug, PartialEq, Eq)]
 pub enum Command {
@@ -25,7 +28,7 @@ pub fn read_words(words: &[String]) -> Option<Command>
     match words {
         [name] if name.as_str() == "run" => Some(Command::Run),
         [name, key, blocks] if name.as_str() == "make" && key.as_str() == "--blocks" => {
-            make_of(blocks.as_bytes(), b"64")
+            make_of(blocks.as_bytes(), DEFAULT_SLACK)
         }
         [name, key, blocks, other, slack]
             if name.as_str() == "make"

@@ -1,11 +1,13 @@
 -- What the host and the guests have to give.
-use Rattle.std.specs.Prelude.{ℕ, zero, suc, ◌<◌, ◌≤◌, IsTrue, List, [], length, slice_get, slice_set, Option, None, unwrap_or}
+use Rattle.std.specs.Prelude.{ℕ, zero, suc, ◌<◌, ◌≤◌, IsTrue, List, [], length}
+use Rattle.std.specs.Prelude.{slice_get, slice_set, Option, None, unwrap_or}
 use Rattle.nesc_base.specs.Blocks.{most_in_request}
 use Rattle.nesc_base.specs.Files.{longest_file}
 use Rattle.nesc_base.specs.Name.{is_name}
 use Rattle.nesc_requests.specs.declared.machine.Machine.{Machine}
 use Rattle.nesc_requests.specs.declared.host.HostCommand.{HostCommand}
-use Rattle.nesc_requests.specs.declared.host.HostCommand.TheVariants.{Create, Delete, Resize, Put, Map, Get, Attach, Detach, Sync, Regs}
+use Rattle.nesc_requests.specs.declared.host.HostCommand.TheVariants.{Create, Delete, Resize, Put, Map}
+use Rattle.nesc_requests.specs.declared.host.HostCommand.TheVariants.{Get, Attach, Detach, Sync, Regs}
 use Rattle.nesc_requests.specs.declared.request.Request.{Request}
 use Rattle.nesc_requests.specs.declared.request.Request.TheVariants.{Read, Write, Flush}
 

@@ -6,8 +6,8 @@ use nesc_base::{Blocks, NoMemory};
 use std::alloc::Global;
 use std::marker::Model;
 
-/// Buffers of blocks for requests and commands, all made at first: a buffer goes along with a request, comes back with the
-/// reply to it, and serves a later one. What a spare buffer holds is nobody's.
+/// Buffers of blocks for requests and commands, all made at first: a buffer goes along with a request, comes back with
+/// the reply to it, and serves a later one. What a spare buffer holds is nobody's.
 #[derive(Drop)]
 pub struct Buffers {
     spare: Vec<Blocks>,
@@ -28,8 +28,8 @@ impl Model for Buffers {
 }
 
 impl Buffers {
-    /// So many buffers, all of them spare, with room for each of 1 to 64 blocks. An `Err` says that there is no memory for
-    /// them. No other call takes any.
+    /// So many buffers, all of them spare, with room for each of 1 to 64 blocks. An `Err` says that there is no memory
+    /// for them. No other call takes any.
     pub fn new(alloc: Global, count: u16) -> Result<Buffers, NoMemory>
         ensures count { IfOk result (λ buffers. buffers.count ≡ count) }
         ensures room { IfOk result (λ buffers. count ≤ buffers.room) }

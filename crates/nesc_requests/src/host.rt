@@ -1,6 +1,7 @@
 use nesc_base::{Blocks, FnNo, Name};
 
-/// What the host asks for. Lengths are in blocks, 0 to 1,048,576, and blocks of a file are numbered from 0 to 1,048,575.
+/// What the host asks for. Lengths are in blocks, 0 to 1,048,576, and blocks of a file are numbered from 0 to
+/// 1,048,575.
 #[derive(Debug, Drop)]
 pub enum HostCommand {
     /// Makes a file of so many blocks, which holds none yet.
@@ -58,8 +59,8 @@ pub enum HostAnswer {
     /// A function has the file.
     Attached,
     /// The registers of a function: the length of its file in blocks; what it waits for, with the first block, how many
-    /// blocks and why (1 where it lies in a part of the tree that was given up, 2 where it is not held), or three zeros; and
-    /// which functions wait, by a bit for each, the lowest for the first.
+    /// blocks and why (1 where it lies in a part of the tree that was given up, 2 where it is not held), or three
+    /// zeros; and which functions wait, by a bit for each, the lowest for the first.
     Regs {
         size: u32,
         block: u32,

@@ -25,4 +25,13 @@ impl Machine {
 
     /// How many requests may wait for one function of any machine.
     pub const MOST_QUEUED: u8 = 64;
+
+    /// How few nodes of trees any machine has.
+    pub const FEWEST_NODES: u16 = 8;
+
+    /// How many nodes of trees any machine has at most.
+    pub const MOST_NODES: u16 = 4_096;
+
+    /// How many translations the cache of any machine has at most.
+    pub const MOST_TRANSLATIONS: u8 = 64;
 }

@@ -1,5 +1,5 @@
 -- The session that was opened: it goes with its disk, in the state in which the machine starts with the files as which the image opens.
-use Rattle.std.proofs.Common.{◌≡◌, ℕ, List, length, replicate, None, true, sym, ap, ◌∙◌, subst, arith}
+use Rattle.std.proofs.Common.{◌≡◌, ℕ, List, length, replicate, None, true, refl, sym, ap, ◌∙◌, subst, arith}
 use Rattle.std.specs.Prelude.{IsErrOf, IsOk, Result}
 use Rattle.std.proofs.lemmas.List.{length-replicate}
 use Rattle.std.proofs.lemmas.Option.{none-some}
@@ -33,7 +33,7 @@ use Rattle.file_layer.proofs.BlocksRead.{kept_on, where_ok}
 use Rattle.plain_machine.specs.Functions.{off}
 use Rattle.plain_machine.specs.declared.setting.Setting.{Setting}
 use Rattle.nesc_session.specs.Opening.{IsBeforeReplay, IsNew, StartsIn}
-use Rattle.nesc_session.specs.Requests.{Requests, functions_of, no_requests}
+use Rattle.nesc_session.specs.Requests.{HoldsUpTo, Requests, functions_of, no_requests}
 use Rattle.nesc_session.specs.Resting.{IsIdleWhereOff, IsSession, Rests}
 use Rattle.nesc_session.specs.declared.session.Session.{Session}
 use Rattle.nesc_session.proofs.Cleared.{no_file}
@@ -101,13 +101,15 @@ module _ (setting : Setting) (machine : IsMachine setting.machine) (fresh : Sess
         machine = subst (λ (s : Setting). IsMachine s.machine) (sym is.set) machine;
         division = sym rests.fits.same ∙ same_division;
         attachments = ap length is.attachments ∙ length-replicate n None ∙ sym set;
-        functions = ap length is.requests ∙ length-replicate n no_requests ∙ sym set;
+        functions = ap length is.requests ∙ length-replicate n (no_requests setting.machine.queue) ∙ sym set;
         last = omega (arith, is.last);
         used = λ f file has. absurd (none-some file (sym (no_file n f) ∙ sym (ap (λ those. file_of those f) is.attachments) ∙ has));
-        idle = subst (IsIdleWhereOff fresh.attachments) (sym is.requests) (idle_at_start fresh.attachments n);
+        idle = subst (IsIdleWhereOff fresh.attachments) (sym is.requests) (idle_at_start fresh.attachments n setting.machine.queue);
         few = λ f requests at.
-            let none : requests ≡ no_requests = numbered_replicate n no_requests f requests (sym (ap (λ all. numbered all f) is.requests) ∙ at) in
-            omega (arith, ap (λ (r : Requests). length r.queue) none);
+            let none : requests ≡ no_requests setting.machine.queue =
+            numbered_replicate n (no_requests setting.machine.queue) f requests (sym (ap (λ all. numbered all f) is.requests) ∙ at) in
+            subst (λ (s : Setting). HoldsUpTo s.machine.queue requests.queue) (sym is.set)
+            (subst (λ (r : Requests). HoldsUpTo setting.machine.queue r.queue) (sym none) (record { depth = refl; within = omega arith }));
       }
 
   -- on the disk, which was only read since its journal was started
@@ -152,7 +154,7 @@ module _ (setting : Setting) (machine : IsMachine setting.machine) (fresh : Sess
                 there.0,
                 loaded_is_in begun (known last) there.0 (replicate fresh.setting.machine.functions off) set places rests
                     (ap (λ (j : Journal). j.staged) anew) (ap (λ (j : Journal). j.count) anew) is.last
-                    (ap (λ (s : Setting). replicate s.machine.functions off) is.set ∙ sym (functions_at_start n)
+                    (ap (λ (s : Setting). replicate s.machine.functions off) is.set ∙ sym (functions_at_start n setting.machine.queue)
                     ∙ sym (ap (λ those. functions_of those fresh.requests.items) is.attachments ∙ ap (functions_of (replicate n None)) is.requests))
                     (on.still_tells ∙ (starts.goes.still_tells ∙ (goes.still_tells ∙ tells))) there.3
                     (subst (λ (s : Files). Opens there.0 journal.geometry s places) same.1 (subst (λ (p : Places). Opens there.0 journal.geometry there.1 p) same.2 there.4)),

@@ -1,14 +1,15 @@
 -- Requests that were cleared, one after another, and functions that have no file.
-use Rattle.std.proofs.Common.{◌≡◌, inl, inr, ℕ, zero, suc, ◌+◌, ◌<◌, ◌≤◌, List, [], length, map, replicate, slice_get, slice_index_or, Option, Some, None, option_map, refl, sym, ap, ◌∙◌, arith}
+use Rattle.std.proofs.Common.{◌≡◌, inl, inr, ℕ, zero, suc, ◌+◌, ◌<◌, ◌≤◌, List, [], length, map, replicate, slice_get, slice_index_or, Option, Some, None, option_map, refl, sym, ap, subst, ◌∙◌, arith}
 use Rattle.std.specs.Prelude.{slice_set, unwrap_or}
 use Rattle.std.proofs.lemmas.Bool.{cases_eq, cases_lt}
-use Rattle.std.proofs.lemmas.Option.{slice_get-get_or, slice_get-map, slice_get_past}
+use Rattle.std.proofs.lemmas.Option.{none-some, same_Some, slice_get-get_or, slice_get-map, slice_get_past}
 use Rattle.std.proofs.lemmas.List.{length-map, length-set}
 use Rattle.nesc_base.specs.declared.numbers.FileNo.{FileNo}
 use Rattle.nesc_base.proofs.Differing.{same_by_places, slice_get-set_other, slice_get-set_same}
 use Rattle.nesc_requests.specs.Script.{numbered}
 use Rattle.hypervisor.specs.Attachments.{file_of}
-use Rattle.nesc_session.specs.Requests.{Requests, cleared}
+use Rattle.hypervisor.proofs.Numbering.{numbered_map}
+use Rattle.nesc_session.specs.Requests.{HoldsUpTo, Requests, cleared}
 use Rattle.nesc_session.proofs.Idle.{idle_cleared}
 
 -- One after another
@@ -56,5 +57,16 @@ no_file n zero = refl
 no_file n (suc k) = none_at n k
 
 -- and no request waits
-pub none_waits : (all : List Requests) (f : ℕ) (requests : Requests) → numbered (map cleared all) f ≡ Some requests → length requests.queue ≡ 0
+pub none_waits : (all : List Requests) (f : ℕ) (requests : Requests) → numbered (map cleared all) f ≡ Some requests → length requests.queue.requests ≡ 0
 none_waits all f requests at = idle_cleared [] all f requests at (no_file 0 f)
+
+-- as many may wait as before
+pub still_cleared : (most : ℕ) (all : List Requests) → ((f : ℕ) (requests : Requests) → numbered all f ≡ Some requests → HoldsUpTo most requests.queue)
+    → (f : ℕ) (requests : Requests) → numbered (map cleared all) f ≡ Some requests → HoldsUpTo most requests.queue
+still_cleared most all few f requests at = was (numbered all f) refl (sym (numbered_map cleared all f) ∙ at)
+  where
+    was : (o : Option Requests) → numbered all f ≡ o → option_map cleared o ≡ Some requests → HoldsUpTo most requests.queue
+    was None there is = absurd (none-some requests is)
+    was (Some before) there is =
+        let depth = (few f before there).depth in
+        subst (λ (those : Requests). HoldsUpTo most those.queue) (same_Some (cleared before) requests is) (record { depth = depth; within = omega arith })

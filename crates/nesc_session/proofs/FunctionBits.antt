@@ -18,7 +18,7 @@ abbrev pub waits : Requests → Bool
 waits requests = is_some requests.waiting
 
 abbrev pub is_queued : Requests → Bool
-is_queued requests = not (is_empty requests.queue)
+is_queued requests = not (is_empty requests.queue.requests)
 
 one_if : (b : Bool) → (if b then 1 else 0) ≡ bit_of b
 one_if true = refl
@@ -44,13 +44,13 @@ pub queued_functions : (files : Attachments) (all : List Requests) (bits : ℕ) 
     → AreQueued bits (functions_of files all)
 queued_functions files all bits as_many idle are k below =
     let within : k < length all = omega (arith, length_functions files all as_many) in
-    let requests = get_or all k no_requests in
+    let requests = get_or all k (no_requests 0) in
     let next : suc k ≡ k + 1 = omega arith in
-    let at = slice_get-get_or all k no_requests within in
-    let queue : queue_of (function_at (functions_of files all) (suc k)) ≡ requests.queue =
+    let at = slice_get-get_or all k (no_requests 0) within in
+    let queue : queue_of (function_at (functions_of files all) (suc k)) ≡ requests.queue.requests =
     ap queue_of (function_at_functions files all as_many (suc k) requests at) ∙ queue_as (file_of files (suc k)) requests (idle (suc k) requests at) in
     ap (λ n. bit_at n k) are
     ∙ bit_at-number_of (map is_queued all) k
-    ∙ ap bit_of (get_or-map is_queued all k no_requests false within)
-    ∙ none_if (is_empty requests.queue)
+    ∙ ap bit_of (get_or-map is_queued all k (no_requests 0) false within)
+    ∙ none_if (is_empty requests.queue.requests)
     ∙ ap (λ queue. if is_empty queue then 0 else 1) (sym queue ∙ ap (λ f. queue_of (function_at (functions_of files all) f)) next)

@@ -56,7 +56,7 @@ module _ (set : Files) (f : FnNo) (file : FileNo) (old : Requests) where
       handles_built pruned = record {
         did = did.Built;
         handles = record {
-          attached = record { file = file.0; queue = old.queue; done = old.done; waiting = old.waiting };
+          attached = record { file = file.0; queue = old.queue.requests; done = old.queue.done; waiting = old.waiting };
           on = refl;
           miss = miss;
           waits = waits;
@@ -75,7 +75,7 @@ module _ (set : Files) (f : FnNo) (file : FileNo) (old : Requests) where
       handles_held unmapped count = record {
         did = did.Held count;
         handles = record {
-          attached = record { file = file.0; queue = old.queue; done = old.done; waiting = old.waiting };
+          attached = record { file = file.0; queue = old.queue.requests; done = old.queue.done; waiting = old.waiting };
           on = refl;
           miss = miss;
           waits = waits;
@@ -94,7 +94,7 @@ module _ (set : Files) (f : FnNo) (file : FileNo) (old : Requests) where
     handles_no_space unmapped wants outcome new ends = record {
       did = did.NoSpace;
       handles = record {
-        turn = record { f = f; attached = record { file = file.0; queue = old.queue; done = old.done; waiting = old.waiting }; head = ends.head; rest = new.queue };
+        turn = record { f = f; attached = record { file = file.0; queue = old.queue.requests; done = old.queue.done; waiting = old.waiting }; head = ends.head; rest = ends.rest };
         is = record { takes = refl; on = refl; queue = ends.queue };
         miss = miss;
         waits = waits;

@@ -34,7 +34,7 @@ off_file : (file : Option FileNo) (requests : Requests) → is_none (function_of
 off_file None requests off = refl
 off_file (Some file) requests off = absurd (false≢true off)
 
-next_as : (file : Option FileNo) (requests : Requests) → (function_of file requests).next ≡ requests.next
+next_as : (file : Option FileNo) (requests : Requests) → (function_of file requests).next ≡ requests.queue.next
 next_as None requests = refl
 next_as (Some file) requests = refl
 
@@ -67,7 +67,7 @@ module _ (files : Attachments) (all : List Requests) (as_many : length files ≡
           let requests : Requests = some.0 in
           let off : file_of files f ≡ None =
           off_file (file_of files f) requests (ap (λ o. option_map_or (λ (function : Function). is_none function.attached) o false) (sym (numbered_functions files all as_many f requests some.1)) ∙ attaches.off) in
-          let idle_here = numbered_all IsClearWhereIdle all f requests clear some.1 (nil_from_length requests.queue (idle f requests some.1 off)) in
+          let idle_here = numbered_all IsClearWhereIdle all f requests clear some.1 (nil_from_length requests.queue.requests (idle f requests some.1 off)) in
           let function : function_at functions f ≡ function_of None requests = function_at_functions files all as_many f requests some.1 ∙ ap (λ file. function_of file requests) off in
           let file : Option FileNo = Some (record { 0 = attaches.number }) in
           let given : attaches.given.after ≡ function_of file requests =

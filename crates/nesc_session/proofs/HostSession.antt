@@ -26,16 +26,16 @@ hosted session files journal attachments = record session { files = files; journ
 
 module _ (session : Session) (is : IsSession session) (attachments : Attachments) (queued : ℕ) (waits : AreQueued queued (functions_in session)) (goes : OnlyIdleGo queued session.attachments attachments) where
   -- a function that has lost its file had no requests
-  idle_still : (f : ℕ) (requests : Requests) → numbered session.requests.items f ≡ Some requests → file_of attachments f ≡ None → length requests.queue ≡ 0
+  idle_still : (f : ℕ) (requests : Requests) → numbered session.requests.items f ≡ Some requests → file_of attachments f ≡ None → length requests.queue.requests ≡ 0
   idle_still f requests at off = had (file_of session.attachments f) refl
     where
-      had : (o : Option FileNo) → file_of session.attachments f ≡ o → length requests.queue ≡ 0
+      had : (o : Option FileNo) → file_of session.attachments f ≡ o → length requests.queue.requests ≡ 0
       had None none = is.idle f requests at none
       had (Some file) on =
           let within = numbered_within session.requests.items f requests at in
           let long = length_functions session.attachments session.requests.items (as_many session is) in
           let next : f - 1 + 1 ≡ f = omega (arith, within.0) in
-          none_queued requests.queue (sym (goes f file on off) ∙ waits (f - 1) (omega (arith, within.0, within.1, long))
+          none_queued requests.queue.requests (sym (goes f file on off) ∙ waits (f - 1) (omega (arith, within.0, within.1, long))
           ∙ ap (λ n. cond {A = ℕ} (is_empty (queue_of (function_at (functions_in session) n))) 0 1) next
           ∙ ap (λ queue. cond {A = ℕ} (is_empty queue) 0 1) (queue_in session is f requests at))
 

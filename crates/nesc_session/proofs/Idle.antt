@@ -4,7 +4,7 @@ use Rattle.std.specs.Prelude.{unwrap_or}
 use Rattle.std.proofs.lemmas.Bool.{cases_eq}
 use Rattle.std.proofs.lemmas.List.{nil_from_length}
 use Rattle.std.proofs.lemmas.Option.{none-some, same_Some}
-use Rattle.circular_buffer.specs.Buffer.{Buffer}
+use Rattle.request_queues.specs.Queue.{Queue}
 use Rattle.nesc_base.specs.declared.numbers.FileNo.{FileNo}
 use Rattle.nesc_requests.specs.declared.request.Miss.{Miss}
 use Rattle.nesc_requests.specs.declared.request.Queued.{Queued}
@@ -22,27 +22,27 @@ some_queued (head ∷ rest) some = refl
 
 -- no request waits where there is no file
 abbrev pub IsIdleIfOff : Option FileNo → Requests → Type 0
-IsIdleIfOff file requests = file ≡ None → length requests.queue ≡ 0
+IsIdleIfOff file requests = file ≡ None → length requests.queue.requests ≡ 0
 
-pub queue_as : (file : Option FileNo) (requests : Requests) → IsIdleIfOff file requests → queue_of (function_of file requests) ≡ requests.queue
-queue_as None requests idle = sym (nil_from_length requests.queue (idle refl))
+pub queue_as : (file : Option FileNo) (requests : Requests) → IsIdleIfOff file requests → queue_of (function_of file requests) ≡ requests.queue.requests
+queue_as None requests idle = sym (nil_from_length requests.queue.requests (idle refl))
 queue_as (Some file) requests idle = refl
 
 pub ready_as : (file : Option FileNo) (requests : Requests) → IsIdleIfOff file requests → is_ready (function_of file requests).attached ≡ is_ready_for requests
-ready_as None requests idle = ap (λ queue. not (is_empty queue) && is_none requests.waiting) (sym (nil_from_length requests.queue (idle refl)))
+ready_as None requests idle = ap (λ queue. not (is_empty queue) && is_none requests.waiting) (sym (nil_from_length requests.queue.requests (idle refl)))
 ready_as (Some file) requests idle = refl
 
 -- it waits for nothing then
 pub waiting_as : (file : Option FileNo) (requests : Requests) → IsIdleIfOff file requests → IsClearWhereIdle requests → waiting_of (function_of file requests) ≡ requests.waiting
-waiting_as None requests idle clear = sym (ap (λ (requests : Requests). requests.waiting) (clear (nil_from_length requests.queue (idle refl))))
+waiting_as None requests idle clear = sym (ap (λ (requests : Requests). requests.waiting) (clear (nil_from_length requests.queue.requests (idle refl))))
 waiting_as (Some file) requests idle clear = refl
 
 -- as it is kept in memory, it is clear where it is idle
-pub clear_sound : (queue : Buffer Queued) (done : ℕ) (waiting : Option Miss) (next : ℕ) → IsSound queue done waiting → IsClearWhereIdle (record { queue = queue.items; done = done; waiting = waiting; next = next })
-clear_sound queue done waiting next sound empty =
-    let none = subst (IsUnderWay done) empty sound.under_way in
-    let nothing = waits_for_none waiting done (subst (WaitsForHead waiting done) empty sound.waits) in
-    λ i. record { queue = empty i; done = none i; waiting = nothing i; next = next }
+pub clear_sound : (queue : Queue) (waiting : Option Miss) → IsSound queue waiting → IsClearWhereIdle (record { queue = queue; waiting = waiting })
+clear_sound queue waiting sound empty =
+    let none = subst (IsUnderWay queue.done) empty sound.under_way in
+    let nothing = waits_for_none waiting queue.done (subst (WaitsForHead waiting queue.done) empty sound.waits) in
+    λ i. record { queue = record queue { requests = empty i; done = none i }; waiting = nothing i }
   where
     waits_for_none : (waiting : Option Miss) (done : ℕ) → WaitsForHead waiting done [] → waiting ≡ None
     waits_for_none None done waits = refl
@@ -73,15 +73,15 @@ idle_with_file files all f file here idle g requests at off = elim (cases_eq g f
 ]
 
 -- where no function has any
-idle_if_none : (files : Attachments) (all : List Requests) → ((f : ℕ) (requests : Requests) → numbered all f ≡ Some requests → requests.queue ≡ []) → IsIdleWhereOff files all
+idle_if_none : (files : Attachments) (all : List Requests) → ((f : ℕ) (requests : Requests) → numbered all f ≡ Some requests → requests.queue.requests ≡ []) → IsIdleWhereOff files all
 idle_if_none files all none f requests at off = ap length (none f requests at)
 
 pub idle_cleared : (files : Attachments) (all : List Requests) → IsIdleWhereOff files (map cleared all)
 idle_cleared files all = idle_if_none files (map cleared all) (λ f requests at. none (numbered all f) requests (sym (numbered_map cleared all f) ∙ at))
   where
-    none : (o : Option Requests) (requests : Requests) → option_map cleared o ≡ Some requests → requests.queue ≡ []
+    none : (o : Option Requests) (requests : Requests) → option_map cleared o ≡ Some requests → requests.queue.requests ≡ []
     none None requests is = absurd (none-some requests is)
-    none (Some old) requests is = ap (λ (one : Requests). one.queue) (sym (same_Some (cleared old) requests is))
+    none (Some old) requests is = ap (λ (one : Requests). one.queue.requests) (sym (same_Some (cleared old) requests is))
 
-pub idle_at_start : (files : Attachments) (n : ℕ) → IsIdleWhereOff files (replicate n no_requests)
-idle_at_start files n = idle_if_none files (replicate n no_requests) (λ f requests at. ap (λ (one : Requests). one.queue) (numbered_replicate n no_requests f requests at))
+pub idle_at_start : (files : Attachments) (n most : ℕ) → IsIdleWhereOff files (replicate n (no_requests most))
+idle_at_start files n most = idle_if_none files (replicate n (no_requests most)) (λ f requests at. ap (λ (one : Requests). one.queue.requests) (numbered_replicate n (no_requests most) f requests at))

@@ -9,6 +9,8 @@ pub mod Counted
 pub mod Faults
 pub mod FunctionBits
 pub mod HandledMisses
+pub mod HeadReached
+pub mod HeadServed
 pub mod HostFunctions
 pub mod HostSession
 pub mod Idle

@@ -163,6 +163,6 @@ functions_restarted (file ∷ files) (requests ∷ all) as_many =
     own (Some file) requests = refl
 
 -- and what they are before the first step
-pub functions_at_start : (n : ℕ) → functions_of (replicate n None) (replicate n no_requests) ≡ replicate n off
-functions_at_start zero = refl
-functions_at_start (suc n) = ap (λ functions. off ∷ functions) (functions_at_start n)
+pub functions_at_start : (n most : ℕ) → functions_of (replicate n None) (replicate n (no_requests most)) ≡ replicate n off
+functions_at_start zero most = refl
+functions_at_start (suc n) most = ap (λ functions. off ∷ functions) (functions_at_start n most)

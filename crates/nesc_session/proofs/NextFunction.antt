@@ -51,18 +51,18 @@ module _ (session : Session) (is : IsSession session) where
         let ready = next_ready session.attachments session.requests.items (as_many session is) is.idle session.last f next in
         (ap is_ready_for (same_Some requests ready.0 (sym at ∙ ready.1)) ∙ ready.2, ready.3)
 
-    pub flushes_first : starts_with_flush requests.queue ≡ true → FlushesFirst session f
-    flushes_first flush others there = ap (λ (one : Requests). starts_with_flush one.queue) (same_Some others requests (sym there ∙ at)) ∙ flush
+    pub flushes_first : starts_with_flush requests.queue.requests ≡ true → FlushesFirst session f
+    flushes_first flush others there = ap (λ (one : Requests). starts_with_flush one.queue.requests) (same_Some others requests (sym there ∙ at)) ∙ flush
 
-    pub keeps_flush : starts_with_flush requests.queue ≡ true → KeepsFor session Tick
+    pub keeps_flush : starts_with_flush requests.queue.requests ≡ true → KeepsFor session Tick
     keeps_flush flush = (f, next, flushes_first flush)
 
-    pub keeps_no_flush : starts_with_flush requests.queue ≡ false → KeepsFor session Tick → ⊥
+    pub keeps_no_flush : starts_with_flush requests.queue.requests ≡ false → KeepsFor session Tick → ⊥
     keeps_no_flush flush keeps =
         let same : f ≡ keeps.0 = same_Some f keeps.0 (sym next ∙ keeps.1) in
         false≢true (sym flush ∙ keeps.2 requests (ap (numbered session.requests.items) (sym same) ∙ at))
 
-    pub needs_next : (write : Bool) → starts_with_write requests.queue ≡ write → needed_by_tick (functions_in session) (next_runnable (functions_in session) session.last) ≡ cond write 1 0
+    pub needs_next : (write : Bool) → starts_with_write requests.queue.requests ≡ write → needed_by_tick (functions_in session) (next_runnable (functions_in session) session.last) ≡ cond write 1 0
     needs_next write first =
         ap (needed_by_tick (functions_in session)) next
         ∙ ap (λ queue. cond {A = ℕ} (starts_with_write queue) 1 0) (queue_in session is f requests at)

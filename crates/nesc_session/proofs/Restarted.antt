@@ -37,11 +37,11 @@ use Rattle.plain_machine.specs.Placing.{Placed, placed_at}
 use Rattle.plain_machine.specs.State.{State}
 use Rattle.plain_machine.specs.declared.outcome.Answer.TheVariants.{Restarted}
 use Rattle.plain_machine.specs.declared.setting.Setting.{Setting}
-use Rattle.nesc_session.specs.Requests.{Requests, cleared, functions_of}
+use Rattle.nesc_session.specs.Requests.{HoldsUpTo, Requests, cleared, functions_of}
 use Rattle.nesc_session.specs.Resting.{IsIn, IsSession, Rests}
 use Rattle.nesc_session.specs.Stepping.{DoesTo, LeavesOld}
 use Rattle.nesc_session.specs.declared.session.Session.{Session}
-use Rattle.nesc_session.proofs.Cleared.{no_file, none_waits}
+use Rattle.nesc_session.proofs.Cleared.{still_cleared, no_file, none_waits}
 use Rattle.nesc_session.proofs.Leaving.{leaves_read, leaves_wider, one_division, opens_as}
 use Rattle.nesc_session.proofs.Loaded.{loaded_is_in}
 use Rattle.nesc_session.proofs.MadeFunctions.{functions_restarted}
@@ -59,7 +59,7 @@ pub record IsRestarted (old new : Session) : Type 0 where
 restarted_session : (old new : Session) (before after : Known) → IsRestarted old new → Rests old before → RestsOn new.files new.journal after → IsSession new
 restarted_session old new before after is rests loaded =
     let set : new.setting.machine.functions ≡ old.setting.machine.functions = ap (λ (s : Setting). s.machine.functions) is.setting in
-    let idle : (f : ℕ) (requests : Requests) → numbered new.requests.items f ≡ Some requests → length requests.queue ≡ 0 =
+    let idle : (f : ℕ) (requests : Requests) → numbered new.requests.items f ≡ Some requests → length requests.queue.requests ≡ 0 =
     λ f requests there. none_waits old.requests.items f requests (sym (ap (λ all. numbered all f) is.requests) ∙ there) in
     record {
       machine = subst (λ (s : Setting). IsMachine s.machine) (sym is.setting) rests.sound.machine;
@@ -70,7 +70,9 @@ restarted_session old new before after is rests loaded =
       last = omega (arith, is.last);
       used = λ f file has. absurd (none-some file (sym (no_file (length old.attachments) f) ∙ sym (ap (λ files. file_of files f) is.attachments) ∙ has));
       idle = λ f requests there off. idle f requests there;
-      few = λ f requests there. omega (arith, idle f requests there);
+      few = λ f requests there.
+          subst (λ (s : Setting). HoldsUpTo s.machine.queue requests.queue) (sym is.setting)
+          (still_cleared old.setting.machine.queue old.requests.items rests.sound.few f requests (sym (ap (λ all. numbered all f) is.requests) ∙ there));
     }
 
 module _ {D : Type 0} (known : D → Known) (old : Session) (first mid : D) (result : Result (Unit {0}) StartFault) (rests : Rests old (known first))

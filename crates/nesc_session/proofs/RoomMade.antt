@@ -50,6 +50,6 @@ pub keeps_in_room : (session : Session) → IsSession session → (event : Event
 keeps_in_room session is (Host Sync) journal few keeps = tt
 keeps_in_room session is Tick journal few keeps =
     let ready = next_ready session.attachments session.requests.items (as_many session is) is.idle session.last keeps.0 keeps.1 in
-    let none = needs_next session is keeps.0 ready.0 keeps.1 ready.1 false (no_write ready.0.queue (keeps.2 ready.0 ready.1)) in
+    let none = needs_next session is keeps.0 ready.0 keeps.1 ready.1 false (no_write ready.0.queue.requests (keeps.2 ready.0 ready.1)) in
     omega (arith, none)
 keeps_in_room session is event journal few keeps = absurd keeps

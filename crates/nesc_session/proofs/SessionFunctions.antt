@@ -23,7 +23,7 @@ module _ (session : Session) (is : IsSession session) where
       pub function_in : function_at (functions_in session) f ≡ function_of (file_of session.attachments f) requests
       function_in = function_at_functions session.attachments session.requests.items as_many f requests at
 
-      pub queue_in : queue_of (function_at (functions_in session) f) ≡ requests.queue
+      pub queue_in : queue_of (function_at (functions_in session) f) ≡ requests.queue.requests
       queue_in = ap queue_of function_in ∙ queue_as (file_of session.attachments f) requests (is.idle f requests at)
 
       -- and a file

@@ -9,8 +9,9 @@ use Rattle.nesc_requests.specs.Script.{numbered, with_numbered}
 use Rattle.file_layer.specs.Layer.{IsUsed, Layer}
 use Rattle.hypervisor.specs.Attachments.{Attachments, file_of}
 use Rattle.image_layout.specs.declared.table.TableEntry.{TableEntry}
+use Rattle.request_queues.specs.Queue.{Queue}
 use Rattle.plain_machine.specs.declared.setting.Setting.{Setting}
-use Rattle.nesc_session.specs.Requests.{Requests}
+use Rattle.nesc_session.specs.Requests.{HoldsUpTo, Requests}
 use Rattle.nesc_session.specs.Resting.{IsIdleWhereOff, IsSession}
 use Rattle.nesc_session.specs.declared.session.Session.{Session}
 use Rattle.nesc_session.proofs.Idle.{idle_with}
@@ -20,11 +21,15 @@ use Rattle.nesc_session.proofs.Items.{each_with, with_item}
 used_by_table : (old new : Layer) (n : ℕ) → new.table ≡ old.table → IsUsed old n → IsUsed new n
 used_by_table old new n same used = subst (λ (table : List (Option TableEntry)). IsUsed (record new { table = table }) n) (sym same) used
 
+-- as many requests may wait as before, and no more do
+pub still_holds : (most : ℕ) (old new : Queue) → HoldsUpTo most old → new.depth ≡ old.depth → length new.requests ≤ length old.requests → HoldsUpTo most new
+still_holds most old new holds depth few = record { depth = depth ∙ holds.depth; within = let within = holds.within in omega (arith, within, few) }
+
 module _ (session : Session) (is : IsSession session) where
   -- a function with a file has other requests, and the files are of the same division and table
   module _ (files : Layer) (division : files.geometry ≡ session.files.geometry) (table : files.table ≡ session.files.table)
       (index f : ℕ) (number : f ≡ index + 1) (within : index < length session.requests.items) (file : FileNo) (on : file_of session.attachments f ≡ Some file)
-      (requests : Requests) (few : length requests.queue ≤ session.setting.machine.queue) (last : ℕ) (among : last ≤ session.setting.machine.functions) where
+      (requests : Requests) (few : HoldsUpTo session.setting.machine.queue requests.queue) (last : ℕ) (among : last ≤ session.setting.machine.functions) where
     pub session_serves : (new : Session) → new.setting ≡ session.setting → new.files ≡ files → new.attachments ≡ session.attachments → new.requests.items ≡ slice_set session.requests.items index requests → new.last ≡ last → IsSession new
     session_serves new same_setting same_files same_attachments changed taken =
         let these : new.requests.items ≡ with_numbered session.requests.items f requests = changed ∙ with_item session.requests.items f index requests number in
@@ -38,6 +43,6 @@ module _ (session : Session) (is : IsSession session) where
           idle = subst (λ (those : Attachments). IsIdleWhereOff those new.requests.items) (sym same_attachments) (subst (IsIdleWhereOff session.attachments) (sym these)
               (idle_with session.attachments session.requests.items f requests (λ off. absurd (none-some file (sym off ∙ on))) is.idle));
           few = λ g one there.
-              subst (λ (setting : Setting). length one.queue ≤ setting.machine.queue) (sym same_setting)
-              (each_with (λ _ (some : Requests). length some.queue ≤ session.setting.machine.queue) session.requests.items f requests few is.few g one (ap (λ (all : List Requests). numbered all g) (sym these) ∙ there));
+              subst (λ (setting : Setting). HoldsUpTo setting.machine.queue one.queue) (sym same_setting)
+              (each_with (λ _ (some : Requests). HoldsUpTo session.setting.machine.queue some.queue) session.requests.items f requests few is.few g one (ap (λ (all : List Requests). numbered all g) (sym these) ∙ there));
         }

@@ -7,9 +7,10 @@ use Rattle.std.proofs.lemmas.List.Folds.{find-append}
 use Rattle.std.proofs.lemmas.Option.{none-some, same_Some, slice_get_within}
 use Rattle.std.specs.List.{find, position_from, range_with_len}
 use Rattle.std.specs.Option.{option_map, option_or, option_and_then}
-use Rattle.circular_buffer.proofs.Places.{slice_get-drop, slice_get-take}
 use Rattle.nesc_base.specs.declared.numbers.FileNo.{FileNo}
 use Rattle.nesc_requests.specs.Script.{numbered}
+use Rattle.image_layout.proofs.OneMap.{slice_get-drop}
+use Rattle.host_journal.proofs.Stored.{slice_get-take}
 use Rattle.hypervisor.specs.Attachments.{Attachments, file_of}
 use Rattle.plain_machine.specs.Functions.{Function, in_turn, is_empty, is_ready, is_runnable, next_runnable}
 use Rattle.nesc_session.specs.Requests.{Requests, functions_of, is_ready_for, position_ready}
@@ -66,7 +67,7 @@ module _ (files : Attachments) (all : List Requests) (as_many : length files ≡
   behind last within =
       ap (λ n. find (is_runnable functions) (range_with_len (last + 1) n)) count
       ∙ in_row functions (drop last all) (last + 1) last refl
-      (λ k requests there. ap (is_runnable functions) (next k) ∙ runnable_as (suc (last + k)) requests (sym (slice_get-drop last all k (last + k) refl) ∙ there))
+      (λ k requests there. ap (is_runnable functions) (next k) ∙ runnable_as (suc (last + k)) requests (sym (slice_get-drop last all k) ∙ there))
     where
       count : length functions - last ≡ length (drop last all)
       count = omega (arith, length-drop last all, length_functions files all as_many)
@@ -126,5 +127,5 @@ module _ (files : Attachments) (all : List Requests) (as_many : length files ≡
       runnable = found_passes (is_runnable functions) (in_turn last (length functions)) f next
 
       on : (file : Option FileNo) → file_of files f ≡ file → (requests : Requests) → IsIdleIfOff (file_of files f) requests → is_ready_for requests ≡ true → (one : FileNo) × (file_of files f ≡ Some one)
-      on None is requests idle ready = absurd (false≢true (sym (ap (λ queue. not (is_empty queue) && is_none requests.waiting) (nil_from_length requests.queue (idle is))) ∙ ready))
+      on None is requests idle ready = absurd (false≢true (sym (ap (λ queue. not (is_empty queue) && is_none requests.waiting) (nil_from_length requests.queue.requests (idle is))) ∙ ready))
       on (Some file) is requests idle ready = (file, is)

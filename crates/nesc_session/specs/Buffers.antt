@@ -18,7 +18,7 @@ abbrev pub queue_buffers : List Queued → ℕ
 queue_buffers = sum_by (λ queued. request_buffers queued.request)
 
 abbrev pub waiting_buffers : List Requests → ℕ
-waiting_buffers = sum_by (λ requests. queue_buffers requests.queue)
+waiting_buffers = sum_by (λ requests. queue_buffers requests.queue.requests)
 
 -- and those that are spare
 abbrev pub buffers_in : Session → Spare → ℕ

@@ -30,10 +30,11 @@ pub record IsNew (setting : Setting) (session : Session) : Type 0 where
   pub files : session.files ≡ no_files setting.geometry
   pub journal : session.journal ≡ record { geometry = setting.geometry; staged = empty; count = 0; started = false }
   pub attachments : session.attachments ≡ replicate setting.machine.functions None
-  pub requests : session.requests.items ≡ replicate setting.machine.functions no_requests
+  pub requests : session.requests.items ≡ replicate setting.machine.functions (no_requests setting.machine.queue)
   pub last : session.last ≡ 0
 
--- the image opened as some files, and the session is in the state in which the machine starts with these, whichever they are
+-- the image opened as some files, and the session is in the state in which the machine starts with these, whichever
+-- they are
 pub record StartsIn (session : Session) (image : List Block) (disk : Known) : Type 0 where
   pub some : (files : Files) × (places : Places) × Opens image session.setting.geometry files places
   pub starts : (files : Files) (places : Places) → Opens image session.setting.geometry files places
@@ -46,16 +47,20 @@ IsBeforeReplay (BadSize place) = Unit {0}
 IsBeforeReplay (BadList place) = Unit {0}
 IsBeforeReplay fault = ⊥
 
--- From the end of a first sync on, which succeeded, every image stands for what the contents stood for, or nothing was written
--- and the machine was not opened. Where nothing was unsynced at first, every image does. Nothing is written where the image is
--- refused before its journal is replayed.
+-- From the end of a first sync on, which succeeded, every image stands for what the contents stood for, or nothing was
+-- written and the machine was not opened. Where nothing was unsynced at first, every image does. Nothing is written
+-- where the image is refused before its journal is replayed.
 pub record LeavesOpened {D T : Type 0} (known : D → Known) (old new : D) (result : Result T OpenFault) : Type 0 where
-  pub synced : (known old).tells ≡ true → (geometry : Geometry) (kept : List Block) → IsDivided (known old).contents geometry
+  pub synced : (known old).tells ≡ true
+      → (geometry : Geometry) (kept : List Block) → IsDivided (known old).contents geometry
       → StandsFor geometry (known old).contents kept
       → LeavesFromSync known geometry kept old new ⊎ (IsErr result × WritesAt nowhere (known old) (known new))
-  pub settled : (known old).tells ≡ true → (geometry : Geometry) (kept : List Block) → IsDivided (known old).contents geometry
-      → IsSettled (known old) → StandsFor geometry (known old).contents kept → Leaves (λ image. StandsFor geometry image kept) (known old) (known new)
-  pub unwritten : (fault : ImageFault) → IsErrOf result (opening.Image fault) → IsBeforeReplay fault → WritesAt nowhere (known old) (known new)
+  pub settled : (known old).tells ≡ true
+      → (geometry : Geometry) (kept : List Block) → IsDivided (known old).contents geometry
+      → IsSettled (known old) → StandsFor geometry (known old).contents kept
+      → Leaves (λ image. StandsFor geometry image kept) (known old) (known new)
+  pub unwritten : (fault : ImageFault) → IsErrOf result (opening.Image fault) → IsBeforeReplay fault
+      → WritesAt nowhere (known old) (known new)
 
 -- why the journal could not be started
 abbrev pub open_fault_of : StartFault → OpenFault

@@ -1,4 +1,5 @@
--- What a step of the session is: a step of the plain machine, whatever state the session is in, and what a stop in it leaves.
+-- What a step of the session is: a step of the plain machine, whatever state the session is in, and what a stop in it
+-- leaves.
 use Rattle.std.specs.Prelude.{◌≡◌, ◌⊎◌, ℕ, ◌||◌, true, false, List, Option, Some, None, Result, Ok, IfOk, is_some}
 use Rattle.nesc_base.specs.declared.block.Block.{Block}
 use Rattle.nesc_base.specs.declared.geometry.Geometry.{Geometry}
@@ -44,9 +45,10 @@ MayStep (Submit f request) = MayAsk request
 MayStep (Host command) = IsWithinLimits command
 MayStep event = Unit {0}
 
--- The step that was taken: of the plain machine, with no trees, and of the places; and where the session is after it, over a
--- disk that has kept these blocks now.
-pub record StepsTo (old : Session) (state : State) (placed : Placed) (event : Event) (outcome : Outcome) (new : Session) (disk : Known) : Type 0 where
+-- The step that was taken: of the plain machine, with no trees, and of the places; and where the session is after it,
+-- over a disk that has kept these blocks now.
+pub record StepsTo (old : Session) (state : State) (placed : Placed) (event : Event) (outcome : Outcome) (new : Session)
+    (disk : Known) : Type 0 where
   pub changes : List Change
   pub next : State
   pub moved : Placed
@@ -63,7 +65,8 @@ Steps old before event result new after =
     → IfOk result (λ outcome. StepsTo old state placed event outcome new after)
 
 -- what an event does behind the commit that came before the step, if one came
-pub record DoesTo (old : Session) (state : State) (placed : Placed) (event : Event) (outcome : Outcome) (new : Session) (disk : Known) : Type 0 where
+pub record DoesTo (old : Session) (state : State) (placed : Placed) (event : Event) (outcome : Outcome) (new : Session)
+    (disk : Known) : Type 0 where
   pub changes : List Change
   pub next : State
   pub moved : Placed
@@ -93,7 +96,8 @@ pub record HasClock {D : Type 0} (known : D → Known) (old : Session) (before :
   pub still : Unchanged (known middle) (known after)
 
 -- the clocks that the outcome tells are those of the disk
-pub record HasClocks {D : Type 0} (known : D → Known) (old : Session) (before : D) (outcome : Outcome) (after : D) : Type 0 where
+pub record HasClocks {D : Type 0} (known : D → Known) (old : Session) (before : D) (outcome : Outcome)
+    (after : D) : Type 0 where
   pub first : (clock : ℕ) → outcome.before ≡ Some clock → HasClock known old before clock after
   pub last : (clock : ℕ) → outcome.after ≡ Some clock → clock ≡ (known after).clock
 
@@ -101,12 +105,13 @@ pub record HasClocks {D : Type 0} (known : D → Known) (old : Session) (before 
 abbrev pub TellsMedia : Outcome → Type 0
 TellsMedia outcome = is_failed_get outcome.answer || is_failed_read outcome.reply ≡ true
 
--- Each image that a stop has left since, and each that it could leave now, opens as the files that were kept; or, where P, as
--- those that there were.
+-- Each image that a stop has left since, and each that it could leave now, opens as the files that were kept; or, where
+-- P, as those that there were.
 abbrev pub LeavesBy : Type 0 → Session → Known → Known → Type 0
 LeavesBy P old before after =
     before.tells ≡ true → (kept : List Block) (state : State) (placed : Placed) → IsIn old before kept state placed
-    → Leaves (λ image. OpensAs old.setting.geometry state.kept image ⊎ (P × OpensAs old.setting.geometry state.now image)) before after
+    → Leaves (λ image. OpensAs old.setting.geometry state.kept image
+    ⊎ (P × OpensAs old.setting.geometry state.now image)) before after
 
 abbrev pub LeavesBoth : Session → Known → Known → Type 0
 LeavesBoth = LeavesBy (Unit {0})
@@ -132,7 +137,8 @@ made_room (Some clock) session = record session { journal = started_anew session
 
 -- the first request of the function of a number is a flush
 abbrev pub FlushesFirst : Session → ℕ → Type 0
-FlushesFirst session f = (requests : Requests) → numbered session.requests.items f ≡ Some requests → starts_with_flush requests.queue ≡ true
+FlushesFirst session f = (requests : Requests) → numbered session.requests.items f ≡ Some requests
+    → starts_with_flush requests.queue.requests ≡ true
 
 -- the event keeps all files: a `sync`, or a tick whose next function has a flush first
 abbrev pub KeepsFor : Session → Event → Type 0
@@ -142,10 +148,12 @@ KeepsFor session event = ⊥
 
 -- there is room in the journal for what an event stages
 abbrev pub HasRoomFor : Session → Event → Journal → Type 0
-HasRoomFor session Tick journal = HasRoom journal (needed_by_tick (functions_in session) (next_runnable (functions_in session) session.last))
+HasRoomFor session Tick journal =
+    HasRoom journal (needed_by_tick (functions_in session) (next_runnable (functions_in session) session.last))
 HasRoomFor session (Host command) journal = HasRoomToDo session.files command journal
 HasRoomFor session (Handle f) journal =
-    (file : FileNo) (requests : Requests) → file_of session.attachments f.0 ≡ Some file → numbered session.requests.items f.0 ≡ Some requests
+    (file : FileNo) (requests : Requests) → file_of session.attachments f.0 ≡ Some file
+    → numbered session.requests.items f.0 ≡ Some requests
     → HasRoomToHold session.files file.0 requests.waiting journal
 HasRoomFor session event journal = Unit {0}
 
@@ -163,10 +171,12 @@ AsksForCommit setting state event =
 -- so it is whatever state the session is in, over a disk that tells
 abbrev pub AsksOnDisk : Session → Known → Event → Type 0
 AsksOnDisk session disk event =
-    disk.tells ≡ true → (kept : List Block) (state : State) (placed : Placed) → IsIn session disk kept state placed → AsksForCommit session.setting state event
+    disk.tells ≡ true → (kept : List Block) (state : State) (placed : Placed) → IsIn session disk kept state placed
+    → AsksForCommit session.setting state event
 
 -- what an event does that needs no disk
-pub record DoesOver (old : Session) (kept : List Block) (state : State) (placed : Placed) (event : Event) (outcome : Outcome) (new : Session) : Type 0 where
+pub record DoesOver (old : Session) (kept : List Block) (state : State) (placed : Placed) (event : Event)
+    (outcome : Outcome) (new : Session) : Type 0 where
   pub changes : List Change
   pub next : State
   pub moved : Placed
@@ -175,13 +185,16 @@ pub record DoesOver (old : Session) (kept : List Block) (state : State) (placed 
   pub stands : Stands new kept next moved
 
 abbrev pub DoesInMemory : Session → Event → Outcome → Session → Type 0
-DoesInMemory old event outcome new = (kept : List Block) (state : State) (placed : Placed) → Stands old kept state placed → DoesOver old kept state placed event outcome new
+DoesInMemory old event outcome new =
+    (kept : List Block) (state : State) (placed : Placed) → Stands old kept state placed
+    → DoesOver old kept state placed event outcome new
 
 -- an event with this answer alone
 abbrev pub DoesAnswer : Session → Known → Event → Answer → Session → Known → Type 0
 DoesAnswer old before event answer new after =
     before.tells ≡ true → (kept : List Block) (state : State) (placed : Placed) → IsIn old before kept state placed
-    → DoesTo old state placed event (record { before = None; answer = answer; drops = 0; built = None; after = None; reply = None }) new after
+    → DoesTo old state placed event
+    (record { before = None; answer = answer; drops = 0; built = None; after = None; reply = None }) new after
 
 -- an answer that tells of no tree and of no failed read
 pub record IsQuiet (answer : Answer) : Type 0 where

@@ -1,5 +1,6 @@
 //! Commits and restarts.
-ghost use Rattle.std.specs.Prelude.{◌≡◌, ◌≢◌, ◌+◌, ◌<◌, ◌≤◌, ℕ, OnErr, OnOk, IfOk, IsErr, IsErrOf, IsOk, None, Ok, Some, is_some, nat_lt, true};
+ghost use Rattle.std.specs.Prelude.{◌≡◌, ◌≢◌, ◌+◌, ◌<◌, ◌≤◌, ℕ, OnErr, OnOk, IfOk, IsErr};
+ghost use Rattle.std.specs.Prelude.{IsErrOf, IsOk, None, Ok, Some, is_some, nat_lt, true};
 ghost use Rattle.std.specs.FinMap.{empty};
 ghost use Rattle.nesc_base.specs.Blocks.{most_in_request};
 ghost use Rattle.nesc_base.specs.Disk.{Goes};
@@ -8,7 +9,8 @@ ghost use Rattle.host_journal.specs.Committing.{Commits};
 ghost use Rattle.host_journal.specs.Journal.{started_anew};
 ghost use Rattle.image_layout.specs.declared.fault.ImageFault.{ImageFault};
 ghost use Rattle.nesc_session.specs.Resting.{Rests};
-ghost use Rattle.nesc_session.specs.Stepping.{DoesOnDisk, HasClock, KeepsFiles, LeavesBoth, LeavesOld, MakesRoom, TellsMedia, made_room, step_fault_of_load, step_fault_of_start};
+ghost use Rattle.nesc_session.specs.Stepping.{DoesOnDisk, HasClock, KeepsFiles, LeavesBoth, LeavesOld, MakesRoom};
+ghost use Rattle.nesc_session.specs.Stepping.{TellsMedia, made_room, step_fault_of_load, step_fault_of_start};
 ghost use Rattle.nesc_session.specs.Buffers.{HasNoRequest, buffers_in, outcome_buffers};
 ghost use Rattle.nesc_session.specs.Serving.{IsPlain};
 ghost use Rattle.image_layout.specs.declared.fault.OpenFault.TheVariants.{NoMemory};
@@ -28,10 +30,12 @@ impl Session {
     pub(crate) fn commit<D: Disk>(&mut self, disk: &mut D) -> Result<u64, StepFault>
         requires rests { Rests self.old (D.known disk.old) }
         ensures rests { OnOk result (Rests self.new (D.known disk.new)) }
-        ensures keeps_files { IfOk result (λ clock. KeepsFiles self.old (D.known disk.old) clock self.new (D.known disk.new)) }
+        ensures keeps_files { IfOk result (λ clock.
+            KeepsFiles self.old (D.known disk.old) clock self.new (D.known disk.new)) }
         ensures result { OnOk result (self.new ≡ record self.old { journal = started_anew self.old.journal }) }
         ensures setting { self.new.setting ≡ self.old.setting }
-        ensures commits { IfOk result (λ clock. Commits self.old.journal.geometry self.old.journal.staged (D.known disk.old) (D.known disk.new) (Ok clock)) }
+        ensures commits { IfOk result (λ clock. Commits self.old.journal.geometry self.old.journal.staged
+            (D.known disk.old) (D.known disk.new) (Ok clock)) }
         ensures clock { IfOk result (λ clock. clock ≡ (D.known disk.new).clock) }
         ensures unasked { self.old.journal.staged ≡ empty → IsOk result × (disk.new ≡ disk.old) }
         ensures leaves { LeavesBoth self.old (D.known disk.old) (D.known disk.new) }
@@ -53,12 +57,15 @@ impl Session {
         requires few { need ≤ most_in_request }
         ensures rests { OnOk result (Rests self.new (D.known disk.new)) }
         ensures room { OnOk result (self.new.journal.count + need ≤ self.new.journal.geometry.slack) }
-        ensures due { IfOk result (λ clock. is_some clock ≡ nat_lt self.old.setting.geometry.slack (self.old.journal.count + need)) }
-        ensures committed { IfOk result (λ clock. MakesRoom self.old (D.known disk.old) clock self.new (D.known disk.new)) }
+        ensures due { IfOk result (λ clock.
+            is_some clock ≡ nat_lt self.old.setting.geometry.slack (self.old.journal.count + need)) }
+        ensures committed { IfOk result (λ clock.
+            MakesRoom self.old (D.known disk.old) clock self.new (D.known disk.new)) }
         ensures result { IfOk result (λ clock. self.new ≡ made_room clock self.old) }
         ensures setting { self.new.setting ≡ self.old.setting }
         ensures none { IfOk result (λ clock. clock ≡ None → disk.new ≡ disk.old) }
-        ensures clock { IfOk result (λ made. (clock : ℕ) → made ≡ Some clock → HasClock D.known self.old disk.old clock disk.new) }
+        ensures clock { IfOk result (λ made. (clock : ℕ) → made ≡ Some clock
+            → HasClock D.known self.old disk.old clock disk.new) }
         ensures leaves { LeavesBoth self.old (D.known disk.old) (D.known disk.new) }
         ensures short { IsErr result → self.old.setting.geometry.slack < self.old.journal.count + need }
         ensures cause { HasCause (D.known disk.old).faults (D.known disk.new).faults (IsErr result) }
@@ -72,8 +79,8 @@ impl Session {
         Ok(Some(self.commit(disk)?))
     }
 
-    /// Starts again from what the disk has kept: all functions are off, their requests are gone, and the buffers of these are
-    /// spare.
+    /// Starts again from what the disk has kept: all functions are off, their requests are gone, and the buffers of
+    /// these are spare.
     pub(crate) fn restart<D: Disk>(
         &mut self,
         disk: &mut D,
@@ -82,7 +89,8 @@ impl Session {
         requires rests { Rests self.old (D.known disk.old) }
         requires room { buffers_in self.old spare.old ≤ spare.old.room }
         ensures rests { OnOk result (Rests self.new (D.known disk.new)) }
-        ensures buffers { IfOk result (λ outcome. buffers_in self.new spare.new + outcome_buffers outcome ≡ buffers_in self.old spare.old) }
+        ensures buffers { IfOk result (λ outcome.
+            buffers_in self.new spare.new + outcome_buffers outcome ≡ buffers_in self.old spare.old) }
         ensures no_request { IfOk result (λ outcome. HasNoRequest outcome.answer) }
         ensures room { spare.new.room ≡ spare.old.room }
         ensures does { DoesOnDisk self.old (D.known disk.old) Event.Restart result self.new (D.known disk.new) }

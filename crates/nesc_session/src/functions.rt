@@ -1,5 +1,6 @@
 //! All functions: which is served next, and for which requests wait.
-ghost use Rattle.std.specs.Prelude.{◌≡◌, ◌+◌, ◌<◌, ◌≤◌, List, Option, length, option_map, replicate, IfOk, IfSome, None};
+ghost use Rattle.std.specs.Prelude.{◌≡◌, ◌+◌, ◌<◌, ◌≤◌, List, Option, length};
+ghost use Rattle.std.specs.Prelude.{option_map, replicate, IfOk, IfSome, None};
 ghost use Rattle.std.specs.List.{All};
 ghost use Rattle.nesc_base.specs.declared.numbers.FileNo.{FileNo};
 ghost use Rattle.nesc_requests.specs.Machine.{most_functions};
@@ -12,13 +13,18 @@ use crate::requests::Requests;
 use nesc_base::NoMemory;
 use std::alloc::Global;
 
-/// The requests of so many functions, none of which waits. An `Err` says that there is no memory for them.
-pub(crate) fn new_requests(alloc: Global, functions: u8) -> Result<Vec<Requests>, NoMemory>
-    ensures { IfOk result (λ requests. requests.items ≡ replicate functions no_requests) }
+/// The requests of so many functions, none of which waits, with the memory for as many as may wait for each. An `Err`
+/// says that there is none.
+pub(crate) fn new_requests(
+    alloc: Global,
+    functions: u8,
+    most: u8,
+) -> Result<Vec<Requests>, NoMemory>
+    ensures { IfOk result (λ requests. requests.items ≡ replicate functions (no_requests most)) }
 {
     let mut requests = Vec::with_capacity(alloc, usize::from(functions))?;
     for _ in 0..functions {
-        requests.push(Requests::new(alloc)?)?;
+        requests.push(Requests::new(alloc, most)?)?;
     }
     Ok(requests)
 }
@@ -33,7 +39,8 @@ fn first_ready(requests: &[Requests]) -> Option<usize>
 /// At which index the first function is that can be served, from the one behind the last on and around to the last.
 pub(crate) fn next_index(requests: &[Requests], last: u8) -> Option<usize>
     requires { last ≤ length requests.now }
-    ensures next { (files : List (Option FileNo)) → length files ≡ length requests.now → IsIdleWhereOff files requests.now
+    ensures next { (files : List (Option FileNo)) → length files ≡ length requests.now
+        → IsIdleWhereOff files requests.now
         → option_map (λ index. index + 1) result ≡ next_runnable (functions_of files requests.now) last }
     ensures within { IfSome result (λ index. index < length requests.now) }
 {
@@ -47,7 +54,8 @@ pub(crate) fn next_index(requests: &[Requests], last: u8) -> Option<usize>
 /// For which functions requests wait, by a bit for each, the lowest for the first.
 pub(crate) fn queued(requests: &[Requests]) -> u16
     requires { length requests.now ≤ most_functions }
-    ensures queued { (files : List (Option FileNo)) → length files ≡ length requests.now → IsIdleWhereOff files requests.now
+    ensures queued { (files : List (Option FileNo)) → length files ≡ length requests.now
+        → IsIdleWhereOff files requests.now
         → AreQueued result (functions_of files requests.now) }
     ensures clear { All IsClearWhereIdle requests.now }
 {

@@ -4,7 +4,7 @@ ghost use Rattle.nesc_base.specs.Files.{file_at};
 ghost use Rattle.nesc_base.specs.declared.numbers.FnNo.{FnNo};
 ghost use Rattle.file_layer.specs.Changing.{GoesOn};
 ghost use Rattle.file_layer.specs.Knowing.{OfFiles};
-ghost use Rattle.file_layer.specs.Layer.{Fits, IsLayer, IsUsed, entry_of};
+ghost use Rattle.file_layer.specs.Layer.{Fits, IsLayer, IsUsed};
 ghost use Rattle.file_layer.specs.Showing.{StayShown};
 ghost use Rattle.file_model.specs.Files.{Change, free, holds, staged};
 ghost use Rattle.host_journal.specs.Journal.{Journal};
@@ -20,7 +20,7 @@ ghost use Rattle.nesc_session.specs.Requests.{function_of};
 ghost use Rattle.nesc_session.specs.Serving.{EndsWithNoSpace, HandlesForAll, HasRoomToHold, IsPlain};
 
 use crate::requests::Requests;
-use crate::serving::{reply, told};
+use crate::serving::{end, told};
 use file_layer::Files;
 use host_journal::Journal;
 use nesc_base::{FileNo, FnNo};
@@ -32,11 +32,14 @@ impl Requests {
     pub fn holdable(&self, file: FileNo, files: &Files) -> u32
         requires layer { IsLayer files.now }
         ensures few { result ≤ most_in_request }
-        ensures room { (journal : Journal) → HasRoom journal result → HasRoomToHold files.now file.0 self.now.waiting journal }
-        ensures asks { IsUsed files.now file.0 → (journal : Journal) → journal.count ≤ journal.geometry.slack → HasRoomToHold files.now file.0 self.now.waiting journal → HasRoom journal result }
+        ensures room { (journal : Journal) → HasRoom journal result
+            → HasRoomToHold files.now file.0 self.now.waiting journal }
+        ensures asks { IsUsed files.now file.0 → (journal : Journal) → journal.count ≤ journal.geometry.slack
+            → HasRoomToHold files.now file.0 self.now.waiting journal → HasRoom journal result }
         ensures need { OfFiles files.now (λ set _. (f : FnNo) (told : Told) (changes : List Change) (new : Function)
             → Handles set f (function_of (Some file) self.now) told changes new
-            → FindsSpace (free files.now.geometry.blocks set) set (function_of (Some file) self.now) told.answer → result ≡ staged changes) }
+            → FindsSpace (free files.now.geometry.blocks set) set (function_of (Some file) self.now) told.answer
+            → result ≡ staged changes) }
     {
         let Some(miss) = self.waiting else {
             return 0;
@@ -47,9 +50,9 @@ impl Requests {
         }
     }
 
-    /// Holds, with zeros, those of the blocks that the function waits for which lie below the file's length and are not held,
-    /// as many as there are free data blocks, and it waits no more. Where none is free and the first of them is wanted, its
-    /// request ends.
+    /// Holds, with zeros, those of the blocks that the function waits for which lie below the file's length and are not
+    /// held, as many as there are free data blocks, and it waits no more. Where none is free and the first of them is
+    /// wanted, its request ends.
     pub fn handle(
         &mut self,
         f: FnNo,
@@ -65,8 +68,10 @@ impl Requests {
         ensures no_trees { HasNoTrees result }
         ensures no_get { is_failed_get result.answer ≡ false }
         ensures read { is_failed_read result.reply ≡ false }
-        ensures few { length self.new.queue ≤ length self.old.queue }
-        ensures buffers { queue_buffers self.new.queue + outcome_buffers result ≡ queue_buffers self.old.queue }
+        ensures depth { self.new.queue.depth ≡ self.old.queue.depth }
+        ensures few { length self.new.queue.requests ≤ length self.old.queue.requests }
+        ensures buffers { queue_buffers self.new.queue.requests
+            + outcome_buffers result ≡ queue_buffers self.old.queue.requests }
         ensures no_request { HasNoRequest result.answer }
         ensures table { files.new.table ≡ files.old.table }
         ensures division { files.new.geometry ≡ files.old.geometry }
@@ -95,19 +100,17 @@ impl Requests {
         ensures ends { EndsWithNoSpace f self.old result self.new }
         ensures no_trees { HasNoTrees result }
     {
-        let done = self.done;
-        let Some(head) = self.finish() else {
-            return told(Answer::Handled(f, Handled::NoSpace), None);
-        };
-        let reply = reply(f, head, End::NoSpace, done);
-        told(Answer::Handled(f, Handled::NoSpace), Some(reply))
+        self.waiting = None;
+        let answer = Answer::Handled(f, Handled::NoSpace);
+        end(&mut self.queue, f, answer, End::NoSpace)
     }
 }
 
 // Block `v` of the file lies below its length and is not held.
 fn lacks(files: &Files, file: FileNo, v: u32) -> bool
     requires layer { IsLayer files.now }
-    ensures { OfFiles files.now (λ set _. result ≡ nat_lt v (file_at set file.0).length && not (holds (file_at set file.0) v)) }
+    ensures { OfFiles files.now (λ set _. result ≡ nat_lt v (file_at set file.0).length
+        && not (holds (file_at set file.0) v)) }
 {
     v < files.length(file).unwrap_or(0) && files.place(file, v).is_none()
 }

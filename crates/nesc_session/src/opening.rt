@@ -26,12 +26,12 @@ use plain_machine::Setting;
 use std::alloc::Global;
 
 impl Session {
-    /// The files as which the image on the disk opens, and the functions of the machine, all of them off. The numbers of the
-    /// machine are within their limits. A journal that was left open is replayed first.
+    /// The files as which the image on the disk opens, and the functions of the machine, all of them off. The numbers
+    /// of the machine are within their limits. A journal that was left open is replayed first.
     ///
-    /// An `Err` says why the image was not opened, by the first cause, or that there is no memory: for what is staged, for the
-    /// owners of data blocks, and for the requests that may wait. No other call takes any. After it the image stands for the
-    /// same as before.
+    /// An `Err` says why the image was not opened, by the first cause, or that there is no memory: for what is staged,
+    /// for the owners of data blocks, and for the requests that may wait. No other call takes any. After it the image
+    /// stands for the same as before.
     pub fn begin<D: Disk>(
         alloc: Global,
         machine: Machine,
@@ -41,11 +41,15 @@ impl Session {
         ensures rests { IfOk result (λ session. Rests session (D.known disk.new)) }
         ensures machine { IfOk result (λ session. session.setting.machine ≡ machine) }
         ensures buffers { IfOk result (λ session. waiting_buffers session.requests.items ≡ 0) }
-        ensures divided { (D.known disk.old).tells ≡ true → IfOk result (λ session. IsDivided (D.known disk.old).contents session.setting.geometry) }
-        ensures start { (D.known disk.old).tells ≡ true → IfOk result (λ session. StartsIn session (D.known disk.old).contents (D.known disk.new)) }
-        ensures refused { (D.known disk.old).tells ≡ true → (fault : ImageFault) → IsErrOf result (Image fault) → IsRefused (D.known disk.old).contents fault }
+        ensures divided { (D.known disk.old).tells ≡ true
+            → IfOk result (λ session. IsDivided (D.known disk.old).contents session.setting.geometry) }
+        ensures start { (D.known disk.old).tells ≡ true
+            → IfOk result (λ session. StartsIn session (D.known disk.old).contents (D.known disk.new)) }
+        ensures refused { (D.known disk.old).tells ≡ true → (fault : ImageFault) → IsErrOf result (Image fault)
+            → IsRefused (D.known disk.old).contents fault }
         ensures memory { result ≡ Err fault.NoMemory → Unchanged (D.known disk.old) (D.known disk.new) }
-        ensures divided_first { result ≡ Err fault.NoMemory → (D.known disk.old).tells ≡ true → (geometry : Geometry) × IsDivided (D.known disk.old).contents geometry }
+        ensures divided_first { result ≡ Err fault.NoMemory → (D.known disk.old).tells ≡ true
+            → (geometry : Geometry) × IsDivided (D.known disk.old).contents geometry }
         ensures leaves { LeavesOpened D.known disk.old disk.new result }
         ensures cause { HasCause (D.known disk.old).faults (D.known disk.new).faults (IsErrOf result (Disk _)) }
         ensures goes { Goes (D.known disk.old) (D.known disk.new) }
@@ -70,7 +74,7 @@ fn new_session(alloc: Global, setting: Setting) -> Result<Session, NoMemory>
         files: Files::new(alloc, setting.geometry)?,
         journal: Journal::new(alloc, setting.geometry)?,
         attachments: Attachments::new(alloc, setting.machine.functions)?,
-        requests: new_requests(alloc, setting.machine.functions)?,
+        requests: new_requests(alloc, setting.machine.functions, setting.machine.queue)?,
         last: 0,
     })
 }

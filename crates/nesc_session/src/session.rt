@@ -1,4 +1,6 @@
-ghost use Rattle.std.specs.Prelude.{◌≡◌, ◌≢◌, ◌⊎◌, ◌||◌, ◌+◌, ◌<◌, ◌≤◌, ℕ, List, [], length, IfErr, IfOk, IfSome, IfNone, IsErr, IsErrOf, IsOk, IsOkAnd, OnErr, OnOk, false, None, Some, is_some, true};
+ghost use Rattle.std.specs.Prelude.{◌≡◌, ◌≢◌, ◌⊎◌, ◌||◌, ◌+◌, ◌<◌, ◌≤◌, ℕ, List, [], length};
+ghost use Rattle.std.specs.Prelude.{IfErr, IfOk, IfSome, IfNone, IsErr, IsErrOf, IsOk};
+ghost use Rattle.std.specs.Prelude.{IsOkAnd, OnErr, OnOk, false, None, Some, is_some, true};
 ghost use Rattle.std.specs.FinMap.{empty};
 ghost use Rattle.nesc_base.specs.Blocks.{most_in_request};
 ghost use Rattle.nesc_base.specs.declared.block.Block.{Block};
@@ -25,10 +27,13 @@ ghost use Rattle.plain_machine.specs.Placing.{Placed};
 ghost use Rattle.plain_machine.specs.State.{State};
 ghost use Rattle.plain_machine.specs.declared.outcome.Outcome.{Outcome as Told};
 ghost use Rattle.nesc_requests.specs.Buffers.{answer_buffers, command_buffers, event_buffers, request_buffers};
-ghost use Rattle.nesc_session.specs.Buffers.{HandsBack, HasNoRequest, buffers_in, outcome_buffers, returned, waiting_buffers};
+ghost use Rattle.nesc_session.specs.Buffers.{HandsBack, HasNoRequest, buffers_in};
+ghost use Rattle.nesc_session.specs.Buffers.{outcome_buffers, returned, waiting_buffers};
 ghost use Rattle.nesc_session.specs.Resting.{IsIn, IsSession, Rests, Stands, functions_in};
 ghost use Rattle.nesc_session.specs.Serving.{IsPlain};
-ghost use Rattle.nesc_session.specs.Stepping.{AsksOnDisk, CommitsFor, DoesAnswer, DoesInMemory, DoesOnDisk, FlushesFirst, HasClocks, HasRoomFor, IsQuiet, KeepsFilesAsTheyAre, KeepsFor, LeavesBoth, LeavesBy, MayStep, Steps, TellsMedia};
+ghost use Rattle.nesc_session.specs.Stepping.{AsksOnDisk, CommitsFor, DoesAnswer, DoesInMemory, DoesOnDisk};
+ghost use Rattle.nesc_session.specs.Stepping.{FlushesFirst, HasClocks, HasRoomFor, IsQuiet, KeepsFilesAsTheyAre};
+ghost use Rattle.nesc_session.specs.Stepping.{KeepsFor, LeavesBoth, LeavesBy, MayStep, Steps, TellsMedia};
 ghost use Rattle.nesc_session.specs.declared.fault.StepFault.TheVariants as fault;
 
 use crate::fault::StepFault;
@@ -55,14 +60,15 @@ pub struct Session {
 }
 
 impl Session {
-    /// Takes one step, and tells what it came to. The session goes with this disk, as `begin` and each `Ok` of this call leave
-    /// it.
+    /// Takes one step, and tells what it came to. The session goes with this disk, as `begin` and each `Ok` of this
+    /// call leave it.
     ///
-    /// `Disk` says that the disk failed in a commit or a restart, and `Image` that a restart read what opens as no files, which
-    /// a disk that tells what it holds never does. The disk has to be opened again then: what a stop leaves opens as the files
-    /// that were kept before, or as those that the commit keeps that the step makes.
+    /// `Disk` says that the disk failed in a commit or a restart, and `Image` that a restart read what opens as no
+    /// files, which a disk that tells what it holds never does. The disk has to be opened again then: what a stop
+    /// leaves opens as the files that were kept before, or as those that the commit keeps that the step makes.
     ///
-    /// The buffer of a `put`, of a `get` that is refused, and of each request that a restart drops are spare after an `Ok`.
+    /// The buffer of a `put`, of a `get` that is refused, and of each request that a restart drops are spare after an
+    /// `Ok`.
     pub fn step<D: Disk>(
         &mut self,
         disk: &mut D,
@@ -75,14 +81,18 @@ impl Session {
         ensures rests { OnOk result (Rests self.new (D.known disk.new)) }
         ensures steps { Steps self.old (D.known disk.old) event result self.new (D.known disk.new) }
         ensures setting { self.new.setting ≡ self.old.setting }
-        ensures buffers { IfOk result (λ outcome. buffers_in self.new spare.new + outcome_buffers outcome ≡ buffers_in self.old spare.old + event_buffers event) }
+        ensures buffers { IfOk result (λ outcome. buffers_in self.new spare.new
+            + outcome_buffers outcome ≡ buffers_in self.old spare.old + event_buffers event) }
         ensures back { IfOk result (λ outcome. HandsBack event outcome.answer) }
         ensures room { spare.new.room ≡ spare.old.room }
         ensures clocks { IfOk result (λ outcome. HasClocks D.known self.old disk.old outcome disk.new) }
         ensures leaves { LeavesBy (CommitsFor self.old event) self.old (D.known disk.old) (D.known disk.new) }
-        ensures still { (CommitsFor self.old event → ⊥) → event ≢ Event.Restart → Unchanged (D.known disk.old) (D.known disk.new) }
-        ensures unasked { self.old.journal.staged ≡ empty → KeepsFor self.old event → IsOk result × (disk.new ≡ disk.old) }
-        ensures quiet { IfOk result (λ outcome. (CommitsFor self.old event → ⊥) → (outcome.before ≡ None) × (outcome.after ≡ None)) }
+        ensures still { (CommitsFor self.old event → ⊥) → event ≢ Event.Restart
+            → Unchanged (D.known disk.old) (D.known disk.new) }
+        ensures unasked { self.old.journal.staged ≡ empty → KeepsFor self.old event
+            → IsOk result × (disk.new ≡ disk.old) }
+        ensures quiet { IfOk result (λ outcome. (CommitsFor self.old event → ⊥)
+            → (outcome.before ≡ None) × (outcome.after ≡ None)) }
         ensures asks { IfErr result (λ _. AsksOnDisk self.old (D.known disk.old) event) }
         ensures media { HasCause (D.known disk.old).faults (D.known disk.new).faults (IsOkAnd result TellsMedia) }
         ensures cause { HasCause (D.known disk.old).faults (D.known disk.new).faults (IsErrOf result (fault.Disk _)) }
@@ -103,7 +113,8 @@ impl Session {
         requires fits { Fits self.now.files self.now.journal }
         requires may { MayStep event.now }
         ensures yes { result ≡ true → CommitsFor self.now event.now }
-        ensures no { result ≡ false → HasRoomFor self.now event.now self.now.journal × (KeepsFor self.now event.now → ⊥) }
+        ensures no { result ≡ false
+            → HasRoomFor self.now event.now self.now.journal × (KeepsFor self.now event.now → ⊥) }
     {
         self.needs(event) > self.journal.room() || self.keeps_files(event)
     }
@@ -111,7 +122,8 @@ impl Session {
     /// How many data blocks are free, 0 to 65,536.
     pub fn free(&self) -> u32
         requires layer { IsLayer self.now.files }
-        ensures { (kept : List Block) (state : State) (placed : Placed) → Stands self.now kept state placed → result ≡ free self.now.files.geometry.blocks state.now }
+        ensures { (kept : List Block) (state : State) (placed : Placed) → Stands self.now kept state placed
+            → result ≡ free self.now.files.geometry.blocks state.now }
     {
         self.files.free()
     }
@@ -119,10 +131,11 @@ impl Session {
     /// How many requests wait for a function, 0 to 64. For one that is off, or is none, that is 0.
     pub fn queued(&self, f: FnNo) -> u32
         requires session { IsSession self.now }
-        ensures { (kept : List Block) (state : State) (placed : Placed) → Stands self.now kept state placed → result ≡ length (queue_of (function_at state.functions f.0)) }
+        ensures { (kept : List Block) (state : State) (placed : Placed) → Stands self.now kept state placed
+            → result ≡ length (queue_of (function_at state.functions f.0)) }
     {
         match self.attached(f) {
-            Some((index, _)) => self.requests[index].queue.len() as u32,
+            Some((index, _)) => self.requests[index].queue.len(),
             None => 0,
         }
     }
@@ -150,9 +163,11 @@ impl Session {
         requires may { MayStep event.now }
         ensures few { result ≤ most_in_request }
         ensures room { (journal : Staging) → HasRoom journal result → HasRoomFor self.now event.now journal }
-        ensures asks { (journal : Staging) → journal.count ≤ journal.geometry.slack → HasRoomFor self.now event.now journal → HasRoom journal result }
+        ensures asks { (journal : Staging) → journal.count ≤ journal.geometry.slack
+            → HasRoomFor self.now event.now journal → HasRoom journal result }
         ensures need { (kept : List Block) (state : State) (placed : Placed) → Stands self.now kept state placed
-            → (changes : List Change) (outcome : Told) (next : State) → Does self.now.setting state event.now changes outcome next
+            → (changes : List Change) (outcome : Told) (next : State) →
+            Does self.now.setting state event.now changes outcome next
             → result ≡ need state event.now changes }
     {
         match event {
@@ -167,7 +182,8 @@ impl Session {
     fn needs_of_tick(&self) -> u32
         requires session { IsSession self.now }
         ensures few { result ≤ 1 }
-        ensures need { result ≡ needed_by_tick (functions_in self.now) (next_runnable (functions_in self.now) self.now.last) }
+        ensures need { result ≡ needed_by_tick (functions_in self.now)
+            (next_runnable (functions_in self.now) self.now.last) }
     {
         match next_index(&self.requests, self.last) {
             Some(index) if self.requests[index].starts_with_write() => 1,
@@ -181,10 +197,12 @@ impl Session {
         requires layer { IsLayer self.now.files }
         ensures few { result ≤ most_in_request }
         ensures room { (journal : Staging) → HasRoom journal result → HasRoomFor self.now (Event.Handle f) journal }
-        ensures asks { (journal : Staging) → journal.count ≤ journal.geometry.slack → HasRoomFor self.now (Event.Handle f) journal → HasRoom journal result }
+        ensures asks { (journal : Staging) → journal.count ≤ journal.geometry.slack
+            → HasRoomFor self.now (Event.Handle f) journal → HasRoom journal result }
         ensures need { OfFiles self.now.files (λ set _. (told : Told) (changes : List Change) (new : Function)
             → Handles set f (function_at (functions_in self.now) f.0) told changes new
-            → FindsSpace (free self.now.files.geometry.blocks set) set (function_at (functions_in self.now) f.0) told.answer → result ≡ staged changes) }
+            → FindsSpace (free self.now.files.geometry.blocks set) set
+            (function_at (functions_in self.now) f.0) told.answer → result ≡ staged changes) }
     {
         match self.attached(f) {
             Some((index, file)) => self.requests[index].holdable(file, &self.files),
@@ -195,7 +213,8 @@ impl Session {
     // At which index the function of a number stands, and its file, where it has one.
     fn attached(&self, f: FnNo) -> Option<(usize, FileNo)>
         requires session { IsSession self.now }
-        ensures some { IfSome result (λ found. (found.0 < length self.now.requests.items) × (f.0 ≡ found.0 + 1) × (file_of self.now.attachments f.0 ≡ Some found.1)) }
+        ensures some { IfSome result (λ found. (found.0 < length self.now.requests.items) × (f.0 ≡ found.0 + 1)
+            × (file_of self.now.attachments f.0 ≡ Some found.1)) }
         ensures none { IfNone result (file_of self.now.attachments f.0 ≡ None) }
     {
         let file = self.attachments.file(f)?;
@@ -213,22 +232,26 @@ impl Session {
         requires may { MayStep event }
         requires room { HasRoomFor self.old event self.old.journal }
         requires spare { buffers_in self.old spare.old + event_buffers event ≤ spare.old.room }
-        ensures buffers { IfOk result (λ outcome. buffers_in self.new spare.new + outcome_buffers outcome ≡ buffers_in self.old spare.old + event_buffers event) }
+        ensures buffers { IfOk result (λ outcome. buffers_in self.new spare.new
+            + outcome_buffers outcome ≡ buffers_in self.old spare.old + event_buffers event) }
         ensures back { IfOk result (λ outcome. HandsBack event outcome.answer) }
         ensures room { spare.new.room ≡ spare.old.room }
         ensures rests { OnOk result (Rests self.new (D.known disk.new)) }
         ensures does { DoesOnDisk self.old (D.known disk.old) event result self.new (D.known disk.new) }
         ensures before { IfOk result (λ outcome. outcome.before ≡ None) }
         ensures setting { self.new.setting ≡ self.old.setting }
-        ensures clock { IfOk result (λ outcome. (clock : ℕ) → outcome.after ≡ Some clock → clock ≡ (D.known disk.new).clock) }
+        ensures clock { IfOk result (λ outcome. (clock : ℕ) → outcome.after ≡ Some clock
+            → clock ≡ (D.known disk.new).clock) }
         ensures leaves { LeavesBy (KeepsFor self.old event) self.old (D.known disk.old) (D.known disk.new) }
         ensures quiet { IfOk result (λ outcome. (KeepsFor self.old event → ⊥) → outcome.after ≡ None) }
         ensures media { HasCause (D.known disk.old).faults (D.known disk.new).faults (IsOkAnd result TellsMedia) }
         ensures cause { HasCause (D.known disk.old).faults (D.known disk.new).faults (IsErrOf result (fault.Disk _)) }
         ensures asked { IsErr result → KeepsFor self.old event ⊎ (event ≡ Event.Restart) }
         ensures image { (image : ImageFault) → IsErrOf result (fault.Image image) → event ≡ Event.Restart }
-        ensures still { (KeepsFor self.old event → ⊥) → event ≢ Event.Restart → Unchanged (D.known disk.old) (D.known disk.new) }
-        ensures unasked { self.old.journal.staged ≡ empty → KeepsFor self.old event → IsOk result × (disk.new ≡ disk.old) }
+        ensures still { (KeepsFor self.old event → ⊥) → event ≢ Event.Restart
+            → Unchanged (D.known disk.old) (D.known disk.new) }
+        ensures unasked { self.old.journal.staged ≡ empty → KeepsFor self.old event
+            → IsOk result × (disk.new ≡ disk.old) }
         ensures opens { (D.known disk.old).tells ≡ true → (image : ImageFault) → ¬ IsErrOf result (fault.Image image) }
         ensures goes { Goes (D.known disk.old) (D.known disk.new) }
         ensures keeps { D.keeps disk.old disk.new }
@@ -255,19 +278,22 @@ impl Session {
         requires rests { Rests self.old (D.known disk.old) }
         requires room { HasRoomFor self.old Event.Tick self.old.journal }
         ensures rests { OnOk result (Rests self.new (D.known disk.new)) }
-        ensures buffers { IfOk result (λ outcome. waiting_buffers self.new.requests.items + outcome_buffers outcome ≡ waiting_buffers self.old.requests.items) }
+        ensures buffers { IfOk result (λ outcome. waiting_buffers self.new.requests.items
+            + outcome_buffers outcome ≡ waiting_buffers self.old.requests.items) }
         ensures no_request { IfOk result (λ outcome. HasNoRequest outcome.answer) }
         ensures does { DoesOnDisk self.old (D.known disk.old) Event.Tick result self.new (D.known disk.new) }
         ensures before { IfOk result (λ outcome. outcome.before ≡ None) }
         ensures setting { self.new.setting ≡ self.old.setting }
-        ensures clock { IfOk result (λ outcome. (clock : ℕ) → outcome.after ≡ Some clock → clock ≡ (D.known disk.new).clock) }
+        ensures clock { IfOk result (λ outcome. (clock : ℕ) → outcome.after ≡ Some clock
+            → clock ≡ (D.known disk.new).clock) }
         ensures leaves { LeavesBy (KeepsFor self.old Event.Tick) self.old (D.known disk.old) (D.known disk.new) }
         ensures quiet { IfOk result (λ outcome. (KeepsFor self.old Event.Tick → ⊥) → outcome.after ≡ None) }
         ensures media { HasCause (D.known disk.old).faults (D.known disk.new).faults (IsOkAnd result TellsMedia) }
         ensures cause { HasCause (D.known disk.old).faults (D.known disk.new).faults (IsErrOf result (fault.Disk _)) }
         ensures asked { IsErr result → KeepsFor self.old Event.Tick }
         ensures still { (KeepsFor self.old Event.Tick → ⊥) → Unchanged (D.known disk.old) (D.known disk.new) }
-        ensures unasked { self.old.journal.staged ≡ empty → KeepsFor self.old Event.Tick → IsOk result × (disk.new ≡ disk.old) }
+        ensures unasked { self.old.journal.staged ≡ empty → KeepsFor self.old Event.Tick
+            → IsOk result × (disk.new ≡ disk.old) }
         ensures kind { OnErr result (IsErrOf result (fault.Disk _)) }
         ensures goes { Goes (D.known disk.old) (D.known disk.new) }
         ensures keeps { D.keeps disk.old disk.new }
@@ -295,12 +321,14 @@ impl Session {
         requires within { index < length self.old.requests.items }
         requires flush { FlushesFirst self.old f.0 }
         ensures rests { OnOk result (Rests self.new (D.known disk.new)) }
-        ensures buffers { IfOk result (λ outcome. waiting_buffers self.new.requests.items + outcome_buffers outcome ≡ waiting_buffers self.old.requests.items) }
+        ensures buffers { IfOk result (λ outcome. waiting_buffers self.new.requests.items
+            + outcome_buffers outcome ≡ waiting_buffers self.old.requests.items) }
         ensures no_request { IfOk result (λ outcome. HasNoRequest outcome.answer) }
         ensures does { DoesOnDisk self.old (D.known disk.old) Event.Tick result self.new (D.known disk.new) }
         ensures before { IfOk result (λ outcome. outcome.before ≡ None) }
         ensures setting { self.new.setting ≡ self.old.setting }
-        ensures clock { IfOk result (λ outcome. (clock : ℕ) → outcome.after ≡ Some clock → clock ≡ (D.known disk.new).clock) }
+        ensures clock { IfOk result (λ outcome. (clock : ℕ) → outcome.after ≡ Some clock
+            → clock ≡ (D.known disk.new).clock) }
         ensures leaves { LeavesBoth self.old (D.known disk.old) (D.known disk.new) }
         ensures media { IfOk result (λ outcome. ¬ TellsMedia outcome) }
         ensures cause { HasCause (D.known disk.old).faults (D.known disk.new).faults (IsErr result) }
@@ -318,12 +346,15 @@ impl Session {
     fn sync<D: Disk>(&mut self, disk: &mut D) -> Result<Outcome, StepFault>
         requires rests { Rests self.old (D.known disk.old) }
         ensures rests { OnOk result (Rests self.new (D.known disk.new)) }
-        ensures buffers { IfOk result (λ outcome. waiting_buffers self.new.requests.items + outcome_buffers outcome ≡ waiting_buffers self.old.requests.items) }
+        ensures buffers { IfOk result (λ outcome. waiting_buffers self.new.requests.items
+            + outcome_buffers outcome ≡ waiting_buffers self.old.requests.items) }
         ensures no_request { IfOk result (λ outcome. HasNoRequest outcome.answer) }
-        ensures does { DoesOnDisk self.old (D.known disk.old) (Event.Host HostCommand.Sync) result self.new (D.known disk.new) }
+        ensures does { DoesOnDisk self.old (D.known disk.old)
+            (Event.Host HostCommand.Sync) result self.new (D.known disk.new) }
         ensures before { IfOk result (λ outcome. outcome.before ≡ None) }
         ensures setting { self.new.setting ≡ self.old.setting }
-        ensures clock { IfOk result (λ outcome. (clock : ℕ) → outcome.after ≡ Some clock → clock ≡ (D.known disk.new).clock) }
+        ensures clock { IfOk result (λ outcome. (clock : ℕ) → outcome.after ≡ Some clock
+            → clock ≡ (D.known disk.new).clock) }
         ensures leaves { LeavesBoth self.old (D.known disk.old) (D.known disk.new) }
         ensures media { IfOk result (λ outcome. ¬ TellsMedia outcome) }
         ensures cause { HasCause (D.known disk.old).faults (D.known disk.new).faults (IsErr result) }
@@ -344,16 +375,17 @@ impl Session {
         requires session { IsSession self.old }
         requires may { MayAsk request }
         ensures session { IsSession self.new }
-        ensures does { DoesInMemory self.old (Event.Submit f request) (record { before = None; answer = result; drops = 0; built = None; after = None; reply = None }) self.new }
-        ensures buffers { waiting_buffers self.new.requests.items + returned result ≡ waiting_buffers self.old.requests.items + request_buffers request }
+        ensures does { DoesInMemory self.old (Event.Submit f request)
+            (record { before = None; answer = result; drops = 0; built = None; after = None; reply = None }) self.new }
+        ensures buffers { waiting_buffers self.new.requests.items
+            + returned result ≡ waiting_buffers self.old.requests.items + request_buffers request }
         ensures back { HandsBack (Event.Submit f request) result }
         ensures no_trees { IsQuiet result }
         ensures parts { KeepsFilesAsTheyAre self.old self.new }
     {
-        let most = self.setting.machine.queue;
         match self.attached(f) {
             None => Answer::Off(request),
-            Some((index, _)) => self.requests[index].submit(most, request),
+            Some((index, _)) => self.requests[index].submit(request),
         }
     }
 
@@ -395,7 +427,8 @@ impl Session {
         requires room { HasRoomToDo self.old.files command self.old.journal }
         requires spare { spare.old.count + command_buffers command ≤ spare.old.room }
         ensures rests { Rests self.new (D.known disk.new) }
-        ensures does { DoesAnswer self.old (D.known disk.old) (Event.Host command) (Answer.Host result) self.new (D.known disk.new) }
+        ensures does { DoesAnswer self.old (D.known disk.old) (Event.Host command)
+            (Answer.Host result) self.new (D.known disk.new) }
         ensures requests { self.new.requests ≡ self.old.requests }
         ensures buffers { spare.new.count + answer_buffers result ≡ spare.old.count + command_buffers command }
         ensures room { spare.new.room ≡ spare.old.room }
@@ -427,7 +460,8 @@ impl Session {
         ensures session { IsSession self.new }
         ensures does { DoesInMemory self.old (Event.Handle f) result self.new }
         ensures plain { IsPlain result }
-        ensures buffers { waiting_buffers self.new.requests.items + outcome_buffers result ≡ waiting_buffers self.old.requests.items }
+        ensures buffers { waiting_buffers self.new.requests.items
+            + outcome_buffers result ≡ waiting_buffers self.old.requests.items }
         ensures no_request { HasNoRequest result.answer }
         ensures no_trees { HasNoTrees result }
         ensures media { ¬ TellsMedia result }

@@ -2,7 +2,8 @@
 use Rattle.std.specs.Prelude.{◌≡◌, List, [], ◌∷◌, drop, map, slice_get, Option, Some, None, option_map, option_to_list}
 use Rattle.std.specs.List.{flat_map}
 use Rattle.nesc_requests.specs.declared.event.Event.{Event}
-use Rattle.nesc_requests.specs.declared.event.Event.TheVariants.{Submit, Tick, Host, Handle, Prune, PruneAt, Evict, Restart}
+use Rattle.nesc_requests.specs.declared.event.Event.TheVariants.{Submit, Tick, Host, Handle}
+use Rattle.nesc_requests.specs.declared.event.Event.TheVariants.{Prune, PruneAt, Evict, Restart}
 use Rattle.nesc_requests.specs.declared.word.Word.{Word}
 use Rattle.nesc_requests.specs.declared.word.Word.TheVariants.{T, G, H, I, P, PAt, E, X}
 use Rattle.nesc_requests.specs.Script.{Script, requests_of, with_numbered}
@@ -29,11 +30,12 @@ event_of script X = Some Restart
 -- the script without what the event was drawn from
 abbrev pub without_drawn : Script → Event → Script
 without_drawn script (Host command) = record script { host = drop 1 script.host }
-without_drawn script (Submit f request) = record script { guests = with_numbered script.guests f.0 (drop 1 (requests_of script f.0)) }
+without_drawn script (Submit f request) =
+    record script { guests = with_numbered script.guests f.0 (drop 1 (requests_of script f.0)) }
 without_drawn script event = script
 
--- What is left behind an event with this answer: the host's command is gone, and so is a request that waits now. One that
--- came back is the guest's next again.
+-- What is left behind an event with this answer: the host's command is gone, and so is a request that waits now. One
+-- that came back is the guest's next again.
 abbrev pub left_after : Script → Event → Answer → Script
 left_after script (Host command) answer = without_drawn script (Host command)
 left_after script (Submit f request) (Queued id) = without_drawn script (Submit f request)
@@ -47,7 +49,8 @@ left_behind script (Some step) = left_after script step.event step.outcome.answe
 abbrev pub Draws : Script → List WordTaken → Script → Type 0
 Draws script [] later = later ≡ script
 Draws script (taken ∷ more) later =
-    (event_of script taken.word ≡ option_map (λ step. step.event) taken.step) × Draws (left_behind script taken.step) more later
+    (event_of script taken.word ≡ option_map (λ step. step.event) taken.step)
+    × Draws (left_behind script taken.step) more later
 
 -- the words, and the steps that they made
 abbrev pub words_in : List WordTaken → List Word

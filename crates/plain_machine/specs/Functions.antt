@@ -1,5 +1,6 @@
 -- What a function, the device of one guest, is at a moment, and which function is served next.
-use Rattle.std.specs.Prelude.{◌≡◌, ℕ, ◌+◌, ◌-◌, ◌*◌, not, ◌&&◌, ◌==◌, if◌then◌else◌, Bool, true, false, List, [], ◌∷◌, ◌++◌, length, Option, Some, None, is_none, is_some, unwrap_or}
+use Rattle.std.specs.Prelude.{◌≡◌, ℕ, ◌+◌, ◌-◌, ◌*◌, not, ◌&&◌, ◌==◌, if◌then◌else◌, Bool, true, false}
+use Rattle.std.specs.Prelude.{List, [], ◌∷◌, ◌++◌, length, Option, Some, None, is_none, is_some, unwrap_or}
 use Rattle.std.specs.List.{AllByRecursion, find, list_any, range_with_len}
 use Rattle.std.specs.Option.{option_and_then, option_map_or}
 use Rattle.nesc_requests.specs.Script.{numbered, with_numbered}
@@ -96,7 +97,8 @@ next_runnable functions last = find (is_runnable functions) (in_turn last (lengt
 
 -- for a function that waits a request waits
 abbrev pub IsSound : Function → Type 0
-IsSound function = (attached : Attached) → function.attached ≡ Some attached → is_some attached.waiting ≡ true → is_empty attached.queue ≡ false
+IsSound function = (attached : Attached) → function.attached ≡ Some attached → is_some attached.waiting ≡ true
+    → is_empty attached.queue ≡ false
 
 abbrev pub AreSound : List Function → Type 0
 AreSound = AllByRecursion IsSound

@@ -1,5 +1,5 @@
--- What is given to the machine in a step: what trees and their cache show, which trees are given up and built, whether the
--- disk can be read, and at which clocks commits come.
+-- What is given to the machine in a step: what trees and their cache show, which trees are given up and built, whether
+-- the disk can be read, and at which clocks commits come.
 use Rattle.std.specs.Prelude.{◌≡◌, ℕ, Bool, true, false, Option, Some, None}
 use Rattle.nesc_requests.specs.declared.host.HostAnswer.{HostAnswer}
 use Rattle.nesc_requests.specs.declared.host.HostAnswer.TheVariants as said
@@ -15,8 +15,8 @@ use Rattle.plain_machine.specs.declared.outcome.How.{How}
 use Rattle.plain_machine.specs.declared.outcome.How.TheVariants.{Hit, Walk, Hole, Range}
 use Rattle.plain_machine.specs.declared.outcome.Outcome.{Outcome}
 
--- how the device looks for a block: it finds it in the cache; or a walk comes to the leaf that covers it, having fetched so
--- many nodes; or to where the tree does not stand
+-- how the device looks for a block: it finds it in the cache; or a walk comes to the leaf that covers it, having
+-- fetched so many nodes; or to where the tree does not stand
 pub data Way : Type 0 where
   cached : Way
   walked : (fetched : ℕ) → Way

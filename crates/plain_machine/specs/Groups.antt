@@ -54,16 +54,16 @@ pub record ReplyLine : Type 0 where
   pub id : ℕ
   pub end : EndTold
 
--- a path of a tree that was built: its function, the blocks that its leaf covers, from the first to the first past it, and
--- how many nodes it has that were not there
+-- a path of a tree that was built: its function, the blocks that its leaf covers, from the first to the first past it,
+-- and how many nodes it has that were not there
 pub record PathLine : Type 0 where
   pub f : FnNo
   pub from : ℕ
   pub to : ℕ
   pub nodes : ℕ
 
--- the lines of one word: the clock of a commit before it, what happened, the functions whose trees were given up, in rising
--- order, the path that was built, the clock of a flush or a sync, and the reply
+-- the lines of one word: the clock of a commit before it, what happened, the functions whose trees were given up, in
+-- rising order, the path that was built, the clock of a flush or a sync, and the reply
 pub record Group : Type 0 where
   pub before : Option ℕ
   pub line : Line
@@ -109,7 +109,8 @@ reply_line_of reply = record { f = reply.f; id = reply.id; end = end_told reply.
 
 -- the functions whose bit is set, in rising order, where the lowest is for the first
 abbrev pub functions_in : ℕ → List FnNo
-functions_in bits = map (λ f. record { 0 = f }) (filter (λ f. bit_at bits (f - 1) == 1) (range_with_len 1 most_functions))
+functions_in bits =
+    map (λ f. record { 0 = f }) (filter (λ f. bit_at bits (f - 1) == 1) (range_with_len 1 most_functions))
 
 -- a path is built where a function is handled
 abbrev pub path_line_of : Answer → Built → Option PathLine
@@ -132,7 +133,8 @@ group_of word outcome = record {
 
 -- nothing was left to give
 abbrev pub end_group : Word → Group
-end_group word = record { before = None; line = nothing_left word; drops = []; built = None; after = None; reply = None }
+end_group word =
+    record { before = None; line = nothing_left word; drops = []; built = None; after = None; reply = None }
 
 -- the group of a word: of the step that it made, or that nothing was left
 abbrev pub told_of : Word → Option StepTaken → Group

@@ -1,5 +1,6 @@
 -- A handling: the host does what a function waits for.
-use Rattle.std.specs.Prelude.{◌≡◌, ℕ, ◌<◌, ◌≤◌, nat_lt, not, ◌&&◌, min, Bool, true, false, List, [], ◌∷◌, length, take, Option, Some, None}
+use Rattle.std.specs.Prelude.{◌≡◌, ℕ, ◌<◌, ◌≤◌, nat_lt, not, ◌&&◌, min, Bool, true}
+use Rattle.std.specs.Prelude.{false, List, [], ◌∷◌, length, take, Option, Some, None}
 use Rattle.nesc_base.specs.declared.numbers.FnNo.{FnNo}
 use Rattle.nesc_requests.specs.declared.request.End.TheVariants as end
 use Rattle.nesc_requests.specs.declared.request.Kind.TheVariants.{Pruned, Unmapped}
@@ -39,7 +40,8 @@ pub record Builds (old : Function) (reply : Option Reply) (changes : List Change
   pub result : new ≡ record old { attached = Some (ready attached) }
 
 -- it waited for blocks; the first so many of those that it wants are held; and it is ready
-pub record HoldsFirst (file : File) (old : Function) (count : ℕ) (reply : Option Reply) (changes : List Change) (new : Function) : Type 0 where
+pub record HoldsFirst (file : File) (old : Function) (count : ℕ) (reply : Option Reply) (changes : List Change)
+    (new : Function) : Type 0 where
   pub attached : Attached
   pub on : old.attached ≡ Some attached
   pub miss : Miss
@@ -50,7 +52,8 @@ pub record HoldsFirst (file : File) (old : Function) (count : ℕ) (reply : Opti
   pub result : new ≡ record old { attached = Some (ready attached) }
 
 -- it waited for a block that it wants; the request, its first, ends as it is; and it is ready
-pub record EndsWithoutSpace (file : File) (f : FnNo) (old : Function) (reply : Option Reply) (changes : List Change) (new : Function) : Type 0 where
+pub record EndsWithoutSpace (file : File) (f : FnNo) (old : Function) (reply : Option Reply) (changes : List Change)
+    (new : Function) : Type 0 where
   pub turn : Turn
   pub is : IsTurn f old turn
   pub miss : Miss
@@ -63,23 +66,26 @@ pub record EndsWithoutSpace (file : File) (f : FnNo) (old : Function) (reply : O
 
 -- what a handling that ends so does for function f, whose file is this one
 abbrev pub HandlesSo : File → FnNo → Function → Handled → Option Reply → List Change → Function → Type 0
-HandlesSo file f old handled.None reply changes new = (waiting_of old ≡ None) × (reply ≡ None) × (changes ≡ []) × (new ≡ old)
+HandlesSo file f old handled.None reply changes new =
+    (waiting_of old ≡ None) × (reply ≡ None) × (changes ≡ []) × (new ≡ old)
 HandlesSo file f old handled.Built reply changes new = Builds old reply changes new
 HandlesSo file f old (handled.Held count) reply changes new = HoldsFirst file old count reply changes new
 HandlesSo file f old handled.NoSpace reply changes new = EndsWithoutSpace file f old reply changes new
 
 -- what a handling does for function f, over these files
-pub record Handles (files : Files) (f : FnNo) (old : Function) (outcome : Outcome) (changes : List Change) (new : Function) : Type 0 where
+pub record Handles (files : Files) (f : FnNo) (old : Function) (outcome : Outcome) (changes : List Change)
+    (new : Function) : Type 0 where
   pub did : Handled
   pub handles : HandlesSo (file_at files (file_number old)) f old did outcome.reply changes new
   pub told : outcome.answer ≡ happened.Handled f did
   pub no_commit : outcome.after ≡ None
 
--- What is free decides how many blocks are held: as many of those that are wanted as there are free data blocks; and that
--- there is no space: where none is free and the first block is wanted. That stands apart from what a handling does to a
--- function and its file, so that what others hold enters here alone.
+-- What is free decides how many blocks are held: as many of those that are wanted as there are free data blocks; and
+-- that there is no space: where none is free and the first block is wanted. That stands apart from what a handling does
+-- to a function and its file, so that what others hold enters here alone.
 abbrev pub HasSpaceFor : ℕ → File → Miss → Handled → Type 0
-HasSpaceFor free file miss (handled.Held count) = (count ≡ min (length (wanted file miss)) free) × (is_wanted file miss ≡ true → 1 ≤ free)
+HasSpaceFor free file miss (handled.Held count) =
+    (count ≡ min (length (wanted file miss)) free) × (is_wanted file miss ≡ true → 1 ≤ free)
 HasSpaceFor free file miss handled.NoSpace = free ≡ 0
 HasSpaceFor free file miss other = Unit {0}
 

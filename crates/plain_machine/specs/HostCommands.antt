@@ -5,12 +5,15 @@ use Rattle.nesc_base.specs.Files.{File, Files, file_at}
 use Rattle.nesc_requests.specs.declared.host.HostAnswer.{HostAnswer}
 use Rattle.nesc_requests.specs.declared.host.HostAnswer.TheVariants as said
 use Rattle.nesc_requests.specs.declared.host.HostCommand.{HostCommand}
-use Rattle.nesc_requests.specs.declared.host.HostCommand.TheVariants.{Create, Delete, Resize, Put, Map, Get, Attach, Detach, Sync, Regs}
+use Rattle.nesc_requests.specs.declared.host.HostCommand.TheVariants.{Create, Delete, Resize, Put, Map}
+use Rattle.nesc_requests.specs.declared.host.HostCommand.TheVariants.{Get, Attach, Detach, Sync, Regs}
 use Rattle.nesc_requests.specs.declared.request.Kind.{Kind}
 use Rattle.nesc_requests.specs.declared.request.Kind.TheVariants.{Pruned, Unmapped}
 use Rattle.nesc_requests.specs.declared.request.Miss.{Miss}
-use Rattle.file_model.specs.Files.{Change, HasName, IsFull, IsNamed, IsUnnamed, create, delete, free, holding, puts_from, read_from, resize, unheld}
-use Rattle.plain_machine.specs.Functions.{Attached, Becomes, Function, attached_of, fresh, function_at, is_empty, is_off, is_taken, pending}
+use Rattle.file_model.specs.Files.{Change, HasName, IsFull, IsNamed, IsUnnamed, create, delete}
+use Rattle.file_model.specs.Files.{free, holding, puts_from, read_from, resize, unheld}
+use Rattle.plain_machine.specs.Functions.{Attached, Becomes, Function, attached_of, fresh}
+use Rattle.plain_machine.specs.Functions.{function_at, is_empty, is_off, is_taken, pending}
 
 -- Files
 
@@ -40,7 +43,8 @@ pub record LacksSpace (blocks : ℕ) (files : Files) (name : List ℕ) (v n are_
 
 -- of the file of this name as many data blocks are free as there are of its n blocks from v on that are not held
 abbrev pub HasSpace : ℕ → Files → List ℕ → ℕ → ℕ → Type 0
-HasSpace blocks files name v n = (number : ℕ) (file : File) → HasName files name number file → length (unheld file v n) ≤ free blocks files
+HasSpace blocks files name v n = (number : ℕ) (file : File) → HasName files name number file
+    → length (unheld file v n) ≤ free blocks files
 
 -- a file has the name, and gets another length
 pub record ResizesFile (files : Files) (name : List ℕ) (length : ℕ) (changes : List Change) : Type 0 where
@@ -58,7 +62,8 @@ pub record MapsBlocks (files : Files) (name : List ℕ) (v n : ℕ) (changes : L
   pub holds : changes ≡ holding number (unheld file v n)
 
 -- a file has the name, and all its blocks from v on that were not held are held and then all are put
-pub record PutsBlocks (files : Files) (name : List ℕ) (v : ℕ) (blocks : List Block) (changes : List Change) : Type 0 where
+pub record PutsBlocks (files : Files) (name : List ℕ) (v : ℕ) (blocks : List Block)
+    (changes : List Change) : Type 0 where
   pub number : ℕ
   pub file : File
   pub named : HasName files name number file
@@ -73,11 +78,10 @@ pub record GetsBlocks (files : Files) (name : List ℕ) (v n : ℕ) (blocks : Li
   pub within : v + n ≤ file.length
   pub read : blocks ≡ read_from file v n
 
--- What a command on files alone is answered, and which changes it makes, where there are so many data blocks. A command has
--- the first answer that applies, in the order in which they stand here, and a refused one changes nothing. That a block that
--- is read cannot be is given.
--- Of a create that is `Ok` this says only that one change is made: that the name is free, and the number the lowest, is said
--- by `Changes`, in whatever takes the list.
+-- What a command on files alone is answered, and which changes it makes, where there are so many data blocks. A command
+-- has the first answer that applies, in the order in which they stand here, and a refused one changes nothing. That a
+-- block that is read cannot be is given. Of a create that is `Ok` this says only that one change is made: that the name
+-- is free, and the number the lowest, is said by `Changes`, in whatever takes the list.
 abbrev pub AnswersFor : ℕ → Files → HostCommand → HostAnswer → List Change → Type 0
 AnswersFor blocks files (Create name len) said.Exists changes = IsNamed files name × (changes ≡ [])
 AnswersFor blocks files (Create name len) said.NoSlot changes = IsUnnamed files name × IsFull files × (changes ≡ [])
@@ -86,16 +90,21 @@ AnswersFor blocks files (Resize name len) said.NoFile changes = IsUnnamed files 
 AnswersFor blocks files (Resize name len) said.Ok changes = ResizesFile files name len changes
 AnswersFor blocks files (Put name v from) said.NoFile changes = IsUnnamed files name × (changes ≡ [])
 AnswersFor blocks files (Put name v from) said.Range changes = IsOutside files name v (length from) × (changes ≡ [])
-AnswersFor blocks files (Put name v from) (said.NoSpace are_free needed) changes = LacksSpace blocks files name v (length from) are_free needed × (changes ≡ [])
-AnswersFor blocks files (Put name v from) said.Ok changes = HasSpace blocks files name v (length from) × PutsBlocks files name v from changes
+AnswersFor blocks files (Put name v from) (said.NoSpace are_free needed) changes =
+    LacksSpace blocks files name v (length from) are_free needed × (changes ≡ [])
+AnswersFor blocks files (Put name v from) said.Ok changes =
+    HasSpace blocks files name v (length from) × PutsBlocks files name v from changes
 AnswersFor blocks files (Map name v n) said.NoFile changes = IsUnnamed files name × (changes ≡ [])
 AnswersFor blocks files (Map name v n) said.Range changes = IsOutside files name v n × (changes ≡ [])
-AnswersFor blocks files (Map name v n) (said.NoSpace are_free needed) changes = LacksSpace blocks files name v n are_free needed × (changes ≡ [])
-AnswersFor blocks files (Map name v n) said.Ok changes = HasSpace blocks files name v n × MapsBlocks files name v n changes
+AnswersFor blocks files (Map name v n) (said.NoSpace are_free needed) changes =
+    LacksSpace blocks files name v n are_free needed × (changes ≡ [])
+AnswersFor blocks files (Map name v n) said.Ok changes =
+    HasSpace blocks files name v n × MapsBlocks files name v n changes
 AnswersFor blocks files (Get name v into) said.NoFile changes = IsUnnamed files name × (changes ≡ [])
 AnswersFor blocks files (Get name v into) said.Range changes = IsOutside files name v (length into) × (changes ≡ [])
 AnswersFor blocks files (Get name v into) said.Media changes = IsInside files name v (length into) × (changes ≡ [])
-AnswersFor blocks files (Get name v into) (said.Got got) changes = GetsBlocks files name v (length into) got × (changes ≡ [])
+AnswersFor blocks files (Get name v into) (said.Got got) changes =
+    GetsBlocks files name v (length into) got × (changes ≡ [])
 AnswersFor blocks files command answer changes = ⊥
 
 -- Files that functions have
@@ -108,7 +117,8 @@ pub record IsFileTaken (files : Files) (functions : List Function) (name : List 
   pub taken : is_taken functions number ≡ true
 
 -- a file has the name, no function has it, and it goes
-pub record DeletesFile (files : Files) (functions : List Function) (name : List ℕ) (changes : List Change) : Type 0 where
+pub record DeletesFile (files : Files) (functions : List Function) (name : List ℕ)
+    (changes : List Change) : Type 0 where
   pub number : ℕ
   pub file : File
   pub named : HasName files name number file
@@ -159,7 +169,8 @@ detached function = record function { attached = None }
 abbrev pub DetachStep : List Function → ℕ → HostAnswer → List Function → Type 0
 DetachStep old f said.NotAttached new = (attached_of old f ≡ None) × (new ≡ old)
 DetachStep old f said.Queued new = HasQueue old f (λ attached. is_empty attached.queue ≡ false) × (new ≡ old)
-DetachStep old f said.Ok new = HasQueue old f (λ attached. is_empty attached.queue ≡ true) × Becomes (λ before after. after ≡ detached before) f old new
+DetachStep old f said.Ok new = HasQueue old f (λ attached. is_empty attached.queue ≡ true)
+    × Becomes (λ before after. after ≡ detached before) f old new
 DetachStep old f answer new = ⊥
 
 -- why a function waits, as a register shows it
@@ -186,9 +197,13 @@ RegsStep files functions f answer = ShowsRegisters files functions f answer
 -- The command is answered so, by these changes of the files, of which there are so many data blocks, and leaves these
 -- functions.
 abbrev pub HostStep : ℕ → Files → List Function → HostCommand → HostAnswer → List Change → List Function → Type 0
-HostStep blocks files functions (Delete name) answer changes new = DeleteStep files functions name answer changes × (new ≡ functions)
-HostStep blocks files functions (Attach f name) answer changes new = AttachStep files functions f.0 name answer new × (changes ≡ [])
+HostStep blocks files functions (Delete name) answer changes new =
+    DeleteStep files functions name answer changes × (new ≡ functions)
+HostStep blocks files functions (Attach f name) answer changes new =
+    AttachStep files functions f.0 name answer new × (changes ≡ [])
 HostStep blocks files functions (Detach f) answer changes new = DetachStep functions f.0 answer new × (changes ≡ [])
 HostStep blocks files functions Sync answer changes new = (answer ≡ said.Ok) × (changes ≡ []) × (new ≡ functions)
-HostStep blocks files functions (Regs f) answer changes new = RegsStep files functions f.0 answer × (changes ≡ []) × (new ≡ functions)
-HostStep blocks files functions command answer changes new = AnswersFor blocks files command answer changes × (new ≡ functions)
+HostStep blocks files functions (Regs f) answer changes new =
+    RegsStep files functions f.0 answer × (changes ≡ []) × (new ≡ functions)
+HostStep blocks files functions command answer changes new =
+    AnswersFor blocks files command answer changes × (new ≡ functions)

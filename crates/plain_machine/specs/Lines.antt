@@ -4,14 +4,18 @@ use Rattle.std.specs.List.{flat_map}
 use Rattle.std.specs.Fmt.{decimal}
 use Rattle.nesc_base.specs.declared.block.Block.{Block}
 use Rattle.nesc_requests.specs.declared.host.HostAnswer.{HostAnswer}
-use Rattle.nesc_requests.specs.declared.host.HostAnswer.TheVariants.{Ok, Exists, NoSlot, NoFile, Range, NoSpace, Media, Got, FunctionTaken, FileTaken, NotAttached, Queued, Attached, Regs}
+use Rattle.nesc_requests.specs.declared.host.HostAnswer.TheVariants.{Ok, Exists, NoSlot, NoFile, Range, NoSpace}
+use Rattle.nesc_requests.specs.declared.host.HostAnswer.TheVariants.{Media, Got, FunctionTaken, FileTaken}
+use Rattle.nesc_requests.specs.declared.host.HostAnswer.TheVariants.{NotAttached, Queued, Attached, Regs}
 use Rattle.nesc_base.specs.BlockText.{block_text}
 use Rattle.nesc_base.specs.declared.numbers.FnNo.{FnNo}
 use Rattle.nesc_requests.specs.declared.request.Kind.{Kind}
 use Rattle.nesc_requests.specs.declared.request.Kind.TheVariants.{Pruned, Unmapped}
 use Rattle.nesc_requests.specs.declared.word.Word.{Word}
 use Rattle.nesc_requests.specs.declared.word.Word.TheVariants.{G, H}
-use Rattle.plain_machine.specs.Groups.{EndTold, Group, Line, PathLine, ReplyLine, evicted, flushed, flushed_at, full, handled, host, idle, media, missed, no_space, nothing_left, off, ok, pruned, pruned_at, queued, range, restarted, served}
+use Rattle.plain_machine.specs.Groups.{EndTold, Group, Line, PathLine, ReplyLine, evicted, flushed, flushed_at}
+use Rattle.plain_machine.specs.Groups.{full, handled, host, idle, media, missed, no_space, nothing_left, off}
+use Rattle.plain_machine.specs.Groups.{ok, pruned, pruned_at, queued, range, restarted, served}
 use Rattle.plain_machine.specs.declared.outcome.Handled.{Handled}
 use Rattle.plain_machine.specs.declared.outcome.Handled.TheVariants as handling
 use Rattle.plain_machine.specs.declared.outcome.How.{How}
@@ -40,7 +44,8 @@ answer_text NotAttached = codes "notattached"
 answer_text Queued = codes "queued"
 answer_text Attached = codes "attached"
 answer_text (Regs size block count kind pending) =
-    codes "regs " ++ decimal size ++ codes " " ++ decimal block ++ codes " " ++ decimal count ++ codes " " ++ decimal kind ++ codes " " ++ decimal pending
+    codes "regs " ++ decimal size ++ codes " " ++ decimal block ++ codes " " ++ decimal count ++ codes " "
+    ++ decimal kind ++ codes " " ++ decimal pending
 
 abbrev pub how_text : How → List ℕ
 how_text how.Hit = codes "hit"
@@ -83,9 +88,11 @@ line_text (queued f id) = codes "g " ++ function_text f ++ codes " " ++ decimal 
 line_text (full f) = codes "g " ++ function_text f ++ codes " full\n"
 line_text (off f) = codes "g " ++ function_text f ++ codes " off\n"
 line_text idle = codes "t idle\n"
-line_text (served f v how) = codes "t " ++ function_text f ++ codes " " ++ decimal v ++ codes " " ++ how_text how ++ codes "\n"
+line_text (served f v how) =
+    codes "t " ++ function_text f ++ codes " " ++ decimal v ++ codes " " ++ how_text how ++ codes "\n"
 line_text (missed f v kind fetched) =
-    codes "t " ++ function_text f ++ codes " " ++ decimal v ++ codes " miss " ++ kind_text kind ++ codes " " ++ decimal fetched ++ codes "\n"
+    codes "t " ++ function_text f ++ codes " " ++ decimal v ++ codes " miss " ++ kind_text kind ++ codes " "
+    ++ decimal fetched ++ codes "\n"
 line_text (host answer) = codes "h " ++ answer_text answer ++ codes "\n"
 line_text (flushed f) = codes "t " ++ function_text f ++ codes " flush\n"
 line_text (handled f done) = codes "i " ++ function_text f ++ codes " " ++ handled_text done ++ codes "\n"
@@ -106,16 +113,19 @@ drop_text f = codes "d " ++ function_text f ++ codes "\n"
 abbrev pub path_text : Option PathLine → List ℕ
 path_text None = []
 path_text (Some path) =
-    codes "b " ++ function_text path.f ++ codes " " ++ decimal path.from ++ codes " " ++ decimal path.to ++ codes " " ++ decimal path.nodes ++ codes "\n"
+    codes "b " ++ function_text path.f ++ codes " " ++ decimal path.from ++ codes " " ++ decimal path.to ++ codes " "
+    ++ decimal path.nodes ++ codes "\n"
 
 abbrev pub reply_text : Option ReplyLine → List ℕ
 reply_text None = []
-reply_text (Some reply) = codes "r " ++ function_text reply.f ++ codes " " ++ decimal reply.id ++ codes " " ++ end_text reply.end ++ codes "\n"
+reply_text (Some reply) = codes "r " ++ function_text reply.f ++ codes " " ++ decimal reply.id ++ codes " "
+    ++ end_text reply.end ++ codes "\n"
 
 -- the lines of one word
 abbrev pub group_text : Group → List ℕ
 group_text group =
-    commit_text group.before ++ line_text group.line ++ flat_map drop_text group.drops ++ path_text group.built ++ commit_text group.after
+    commit_text group.before ++ line_text group.line ++ flat_map drop_text group.drops ++ path_text group.built
+    ++ commit_text group.after
     ++ reply_text group.reply
 
 -- the last line, which says how many words there were

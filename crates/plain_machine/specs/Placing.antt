@@ -29,7 +29,8 @@ abbrev pub data_area : Geometry → Area
 data_area geometry = record { from = area_from geometry; to = total geometry }
 
 -- the changes of an event move them, and a commit that the event makes keeps them
-pub record MovesPlaces (geometry : Geometry) (old : Placed) (changes : List Change) (after : Option ℕ) (new : Placed) : Type 0 where
+pub record MovesPlaces (geometry : Geometry) (old : Placed) (changes : List Change) (after : Option ℕ)
+    (new : Placed) : Type 0 where
   pub places : Places
   pub moves : AreMoved (data_area geometry) old.now changes places
   pub result : new ≡ placed_by after (record { now = places; kept = old.kept })
@@ -41,4 +42,5 @@ PlacesAfter geometry old event changes after new = MovesPlaces geometry old chan
 
 -- so a step moves them; a commit may come before it
 abbrev pub PlacesStep : Geometry → Placed → Event → List Change → Outcome → Placed → Type 0
-PlacesStep geometry old event changes outcome new = PlacesAfter geometry (placed_by outcome.before old) event changes outcome.after new
+PlacesStep geometry old event changes outcome new =
+    PlacesAfter geometry (placed_by outcome.before old) event changes outcome.after new

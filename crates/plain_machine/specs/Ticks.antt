@@ -1,7 +1,8 @@
--- A tick: the next function that is runnable is served one block of its first request, or waits. It is `Ticks`, at the end:
--- idle, or a turn that is taken (`TakesTurn`, `Serves`), and of that by its line `Flushes`, `EndsPast`, `ServesBlock` or
--- `FailsToRead`, or `WaitsForBlock`.
-use Rattle.std.specs.Prelude.{◌≡◌, ◌⊎◌, ℕ, ◌+◌, ◌-◌, ◌<◌, ◌≤◌, nat_le, if◌then◌else◌, Bool, true, false, List, [], ◌∷◌, slice_index_or, slice_set, Option, Some, None}
+-- A tick: the next function that is runnable is served one block of its first request, or waits. It is `Ticks`, at the
+-- end: idle, or a turn that is taken (`TakesTurn`, `Serves`), and of that by its line `Flushes`, `EndsPast`,
+-- `ServesBlock` or `FailsToRead`, or `WaitsForBlock`.
+use Rattle.std.specs.Prelude.{◌≡◌, ◌⊎◌, ℕ, ◌+◌, ◌-◌, ◌<◌, ◌≤◌, nat_le, if◌then◌else◌, Bool, true}
+use Rattle.std.specs.Prelude.{false, List, [], ◌∷◌, slice_index_or, slice_set, Option, Some, None}
 use Rattle.nesc_base.specs.Block.{zero_block}
 use Rattle.nesc_base.specs.declared.numbers.FnNo.{FnNo}
 use Rattle.nesc_requests.specs.declared.request.End.{End}
@@ -45,7 +46,8 @@ next_block turn = first_of turn.head.request + turn.attached.done
 -- Ends
 
 abbrev pub reply_of : Turn → End → ℕ → Request → Reply
-reply_of turn ending done request = record { f = turn.f; id = turn.head.id; end = ending; done = done; request = request }
+reply_of turn ending done request =
+    record { f = turn.f; id = turn.head.id; end = ending; done = done; request = request }
 
 -- the request has left the queue
 abbrev pub ended : Turn → Attached
@@ -59,7 +61,10 @@ is_last turn = nat_le (block_count turn.head.request) (turn.attached.done + 1)
 abbrev pub served_of : Turn → Request → Attached
 served_of turn request =
     if is_last turn then ended turn
-    else record turn.attached { queue = (record turn.head { request = request }) ∷ turn.rest; done = turn.attached.done + 1 }
+    else record turn.attached {
+      queue = (record turn.head { request = request }) ∷ turn.rest;
+      done = turn.attached.done + 1;
+    }
 
 -- the reply, after the last block
 abbrev pub replied_to : Turn → Request → Option Reply
@@ -67,11 +72,12 @@ replied_to turn request =
     if is_last turn then Some (reply_of turn end.Ok (turn.attached.done + 1) request)
     else None
 
--- What a turn comes to: the answer, the clock of the commit that it makes, the reply, what it changes, and what the function
--- has then. The file is the one that the function has.
+-- What a turn comes to: the answer, the clock of the commit that it makes, the reply, what it changes, and what the
+-- function has then. The file is the one that the function has.
 
 -- the request is a flush: all files are kept, and it ends with the clock of that
-pub record Flushes (turn : Turn) (after : Option ℕ) (reply : Option Reply) (changes : List Change) (later : Attached) : Type 0 where
+pub record Flushes (turn : Turn) (after : Option ℕ) (reply : Option Reply) (changes : List Change)
+    (later : Attached) : Type 0 where
   pub asked : is_flush turn.head.request ≡ true
   pub clock : ℕ
   pub commits : after ≡ Some clock
@@ -80,7 +86,8 @@ pub record Flushes (turn : Turn) (after : Option ℕ) (reply : Option Reply) (ch
   pub result : later ≡ ended turn
 
 -- at or past the length a request that has blocks ends
-pub record EndsPast (file : File) (turn : Turn) (after : Option ℕ) (reply : Option Reply) (changes : List Change) (later : Attached) : Type 0 where
+pub record EndsPast (file : File) (turn : Turn) (after : Option ℕ) (reply : Option Reply) (changes : List Change)
+    (later : Attached) : Type 0 where
   pub for_blocks : is_flush turn.head.request ≡ false
   pub past : file.length ≤ next_block turn
   pub no_commit : after ≡ None
@@ -88,12 +95,15 @@ pub record EndsPast (file : File) (turn : Turn) (after : Option ℕ) (reply : Op
   pub replies : reply ≡ Some (reply_of turn end.Range turn.attached.done turn.head.request)
   pub result : later ≡ ended turn
 
--- Block v is reached so for a request of which so many blocks are done, and this is the request after it. A read gets what
--- stands there, zeros where nothing is held; a write goes to a block that is held.
+-- Block v is reached so for a request of which so many blocks are done, and this is the request after it. A read gets
+-- what stands there, zeros where nothing is held; a write goes to a block that is held.
 abbrev pub Reaches : File → ℕ → ℕ → Request → How → Request → Type 0
-Reaches file v done (Read at into) Hit after = (holds file v ≡ true) × (after ≡ Read at (slice_set into done (read file v)))
-Reaches file v done (Read at into) (Walk fetched) after = (holds file v ≡ true) × (after ≡ Read at (slice_set into done (read file v)))
-Reaches file v done (Read at into) (Hole fetched) after = (holds file v ≡ false) × (after ≡ Read at (slice_set into done zero_block))
+Reaches file v done (Read at into) Hit after =
+    (holds file v ≡ true) × (after ≡ Read at (slice_set into done (read file v)))
+Reaches file v done (Read at into) (Walk fetched) after =
+    (holds file v ≡ true) × (after ≡ Read at (slice_set into done (read file v)))
+Reaches file v done (Read at into) (Hole fetched) after =
+    (holds file v ≡ false) × (after ≡ Read at (slice_set into done zero_block))
 Reaches file v done (Write at from) Hit after = (holds file v ≡ true) × (after ≡ Write at from)
 Reaches file v done (Write at from) (Walk fetched) after = (holds file v ≡ true) × (after ≡ Write at from)
 Reaches file v done request how after = ⊥
@@ -105,7 +115,8 @@ served_changes n v done (Write at from) = put n v (slice_index_or from done zero
 served_changes n v done Flush = []
 
 -- a block below the length is served, and with the last one the request ends
-pub record ServesBlock (file : File) (turn : Turn) (how : How) (after : Option ℕ) (reply : Option Reply) (changes : List Change) (later : Attached) : Type 0 where
+pub record ServesBlock (file : File) (turn : Turn) (how : How) (after : Option ℕ) (reply : Option Reply)
+    (changes : List Change) (later : Attached) : Type 0 where
   pub below : next_block turn < file.length
   pub request : Request
   pub reaches : Reaches file (next_block turn) turn.attached.done turn.head.request how request
@@ -126,7 +137,8 @@ is_read (Write v from) = false
 is_read Flush = false
 
 -- a block that is held could not be read, and the request ends with what was read before
-pub record FailsToRead (file : File) (turn : Turn) (how : How) (after : Option ℕ) (reply : Option Reply) (changes : List Change) (later : Attached) : Type 0 where
+pub record FailsToRead (file : File) (turn : Turn) (how : How) (after : Option ℕ) (reply : Option Reply)
+    (changes : List Change) (later : Attached) : Type 0 where
   pub below : next_block turn < file.length
   pub held : holds file (next_block turn) ≡ true
   pub on_disk : IsOnDisk how
@@ -136,14 +148,15 @@ pub record FailsToRead (file : File) (turn : Turn) (how : How) (after : Option �
   pub replies : reply ≡ Some (reply_of turn end.Media turn.attached.done turn.head.request)
   pub result : later ≡ ended turn
 
--- Why a request cannot go on at block v: the block lies in a part of the tree that does not stand; or the request is a write,
--- and the block is not held.
+-- Why a request cannot go on at block v: the block lies in a part of the tree that does not stand; or the request is a
+-- write, and the block is not held.
 abbrev pub MayWait : File → ℕ → Request → Kind → Type 0
 MayWait file v request Pruned = is_flush request ≡ false
 MayWait file v request Unmapped = (is_write request ≡ true) × (holds file v ≡ false)
 
 -- the request cannot go on at a block below the length, and the function waits
-pub record WaitsForBlock (file : File) (turn : Turn) (miss : Miss) (after : Option ℕ) (reply : Option Reply) (changes : List Change) (later : Attached) : Type 0 where
+pub record WaitsForBlock (file : File) (turn : Turn) (miss : Miss) (after : Option ℕ) (reply : Option Reply)
+    (changes : List Change) (later : Attached) : Type 0 where
   pub below : next_block turn < file.length
   pub why : MayWait file (next_block turn) turn.head.request miss.kind
   pub at : miss.v ≡ next_block turn
@@ -155,14 +168,18 @@ pub record WaitsForBlock (file : File) (turn : Turn) (miss : Miss) (after : Opti
 
 abbrev pub TurnsTo : File → Turn → Answer → Option ℕ → Option Reply → List Change → Attached → Type 0
 TurnsTo file turn (Flushed f) after reply changes later = (f ≡ turn.f) × Flushes turn after reply changes later
-TurnsTo file turn (Served f v Range) after reply changes later = (f ≡ turn.f) × (v ≡ next_block turn) × EndsPast file turn after reply changes later
+TurnsTo file turn (Served f v Range) after reply changes later =
+    (f ≡ turn.f) × (v ≡ next_block turn) × EndsPast file turn after reply changes later
 TurnsTo file turn (Served f v how) after reply changes later =
-    (f ≡ turn.f) × (v ≡ next_block turn) × (ServesBlock file turn how after reply changes later ⊎ FailsToRead file turn how after reply changes later)
-TurnsTo file turn (Missed f miss fetched) after reply changes later = (f ≡ turn.f) × WaitsForBlock file turn miss after reply changes later
+    (f ≡ turn.f) × (v ≡ next_block turn)
+    × (ServesBlock file turn how after reply changes later ⊎ FailsToRead file turn how after reply changes later)
+TurnsTo file turn (Missed f miss fetched) after reply changes later =
+    (f ≡ turn.f) × WaitsForBlock file turn miss after reply changes later
 TurnsTo file turn answer after reply changes later = ⊥
 
 -- what a tick does for the function that it takes, over these files
-pub record Serves (files : Files) (f : FnNo) (old : Function) (outcome : Outcome) (changes : List Change) (new : Function) : Type 0 where
+pub record Serves (files : Files) (f : FnNo) (old : Function) (outcome : Outcome) (changes : List Change)
+    (new : Function) : Type 0 where
   pub turn : Turn
   pub is : IsTurn f old turn
   pub later : Attached
@@ -170,7 +187,8 @@ pub record Serves (files : Files) (f : FnNo) (old : Function) (outcome : Outcome
   pub result : new ≡ record old { attached = Some later }
 
 -- no function can be served
-pub record IsIdle (old : State) (outcome : Outcome) (changes : List Change) (functions : List Function) (last : ℕ) : Type 0 where
+pub record IsIdle (old : State) (outcome : Outcome) (changes : List Change) (functions : List Function)
+    (last : ℕ) : Type 0 where
   pub none : next_runnable old.functions old.last ≡ None
   pub idle : outcome.answer ≡ Idle
   pub no_commit : outcome.after ≡ None
@@ -180,13 +198,15 @@ pub record IsIdle (old : State) (outcome : Outcome) (changes : List Change) (fun
   pub same_last : last ≡ old.last
 
 -- the next function that is runnable is taken
-pub record TakesTurn (old : State) (outcome : Outcome) (changes : List Change) (functions : List Function) (last : ℕ) : Type 0 where
+pub record TakesTurn (old : State) (outcome : Outcome) (changes : List Change) (functions : List Function)
+    (last : ℕ) : Type 0 where
   pub f : FnNo
   pub next : next_runnable old.functions old.last ≡ Some f.0
   pub serves : Becomes (λ before after. Serves old.now f before outcome changes after) f.0 old.functions functions
   pub last_is : last ≡ f.0
 
--- A tick takes as given how the device comes to a block, how many nodes of a tree it fetches for that, and whether the disk
--- can be read. What is said of the first two beside the machine stands in `Misses`.
+-- A tick takes as given how the device comes to a block, how many nodes of a tree it fetches for that, and whether the
+-- disk can be read. What is said of the first two beside the machine stands in `Misses`.
 abbrev pub Ticks : State → Outcome → List Change → List Function → ℕ → Type 0
-Ticks old outcome changes functions last = IsIdle old outcome changes functions last ⊎ TakesTurn old outcome changes functions last
+Ticks old outcome changes functions last =
+    IsIdle old outcome changes functions last ⊎ TakesTurn old outcome changes functions last

@@ -12,14 +12,17 @@ use Rattle.plain_machine.specs.Misses.{MeetsMissLaw}
 use Rattle.plain_machine.specs.State.{State, start}
 use Rattle.plain_machine.specs.declared.setting.Setting.{Setting}
 
--- a run of the plain machine that meets the law of misses, where the blocks of files stand at these places at its beginning
-pub record LegalRun (setting : Setting) (places : Places) (old : State) (steps : List StepTaken) (new : State) : Type 0 where
+-- a run of the plain machine that meets the law of misses, where the blocks of files stand at these places at its
+-- beginning
+pub record LegalRun (setting : Setting) (places : Places) (old : State) (steps : List StepTaken)
+    (new : State) : Type 0 where
   pub run : Run setting old steps new
   pub law : MeetsMissLaw setting places steps
 
--- A legal trace: the words draw a legal run from the script, and each of them has a group of lines. They lead from the old
--- state to the new one, and leave the rest of the script.
-pub record IsTrace (setting : Setting) (places : Places) (old : State) (script : Script) (words : List Word) (groups : List Group) (new : State) (rest : Script) : Type 0 where
+-- A legal trace: the words draw a legal run from the script, and each of them has a group of lines. They lead from the
+-- old state to the new one, and leave the rest of the script.
+pub record IsTrace (setting : Setting) (places : Places) (old : State) (script : Script) (words : List Word)
+    (groups : List Group) (new : State) (rest : Script) : Type 0 where
   pub taken : List WordTaken
   pub words_taken : words_in taken ≡ words
   pub draws : Draws script taken rest
@@ -31,7 +34,9 @@ abbrev pub setting_of : Script → Geometry → Setting
 setting_of script geometry = record { machine = script.machine; geometry = geometry }
 
 -- It is a legal trace of the words and the script over these files, at these places, of an image that is divided so.
-pub record IsLegal (geometry : Geometry) (files : Files) (places : Places) (script : Script) (words : List Word) (groups : List Group) : Type 0 where
+pub record IsLegal (geometry : Geometry) (files : Files) (places : Places) (script : Script) (words : List Word)
+    (groups : List Group) : Type 0 where
   pub new : State
   pub rest : Script
-  pub trace : IsTrace (setting_of script geometry) places (start (setting_of script geometry) files) script words groups new rest
+  pub trace : IsTrace (setting_of script geometry) places
+      (start (setting_of script geometry) files) script words groups new rest

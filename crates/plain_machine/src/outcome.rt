@@ -41,8 +41,8 @@ pub enum Answer {
     Handled(FnNo, Handled),
     /// The host gave up a function's tree, if there was one.
     Pruned(FnNo),
-    /// The host gave up a leaf of a function's tree, which covered these blocks, from the first to the first past it; or
-    /// none covered the block.
+    /// The host gave up a leaf of a function's tree, which covered these blocks, from the first to the first past it;
+    /// or none covered the block.
     PrunedAt(FnNo, Option<(u32, u32)>),
     /// The host emptied the cache of translations.
     Evicted,

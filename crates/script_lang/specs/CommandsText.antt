@@ -1,5 +1,6 @@
 -- What a commands file says: its script, or the first cause for which it is refused.
-use Rattle.std.specs.Prelude.{ℕ, pos, ◌+◌, ◌-◌, nat_le, if◌then◌else◌, List, [], ◌∷◌, ◌++◌, length, replicate, codes, Option, Some, None, ok_or, Result, Ok, Err}
+use Rattle.std.specs.Prelude.{ℕ, pos, ◌+◌, ◌-◌, nat_le, if◌then◌else◌, List, [], ◌∷◌, ◌++◌, length}
+use Rattle.std.specs.Prelude.{replicate, codes, Option, Some, None, ok_or, Result, Ok, Err}
 use Rattle.std.specs.List.{sum_by}
 use Rattle.std.specs.Str.{is_utf8}
 use Rattle.toml.specs.Data.{Data, string, array, table, Items, no_items, item, Members, no_members, get_member}
@@ -48,7 +49,8 @@ guests_of (item value items) = strings_of (items_in (Some value)) ∷ guests_of 
 
 -- the guests, if there are no more of them than functions
 abbrev pub few_guests : ℕ → List (List (List ℕ)) → Result (List (List (List ℕ))) InputFault
-few_guests functions guests = if nat_le (length guests) functions then Ok guests else Err (OverLimit Guests (pos (length guests)))
+few_guests functions guests =
+    if nat_le (length guests) functions then Ok guests else Err (OverLimit Guests (pos (length guests)))
 
 -- what each string of an actor says, or the first that says nothing, where this is the index of the first string
 abbrev pub each_said : {C : Type 0} → (List ℕ → Option C) → ℕ → ℕ → List (List ℕ) → Result (List C) InputFault

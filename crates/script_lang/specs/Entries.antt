@@ -11,7 +11,8 @@ use Rattle.script_lang.specs.Stored.{IsStored, blocks_at}
 use Rattle.script_lang.specs.declared.entries.GuestEntry.{GuestEntry}
 use Rattle.script_lang.specs.declared.entries.GuestEntry.TheVariants.{Read, Write, Flush}
 use Rattle.script_lang.specs.declared.entries.HostEntry.{HostEntry}
-use Rattle.script_lang.specs.declared.entries.HostEntry.TheVariants.{Create, Delete, Resize, Put, Map, Get, Attach, Detach, Sync, Regs}
+use Rattle.script_lang.specs.declared.entries.HostEntry.TheVariants.{Create, Delete, Resize, Put, Map}
+use Rattle.script_lang.specs.declared.entries.HostEntry.TheVariants.{Get, Attach, Detach, Sync, Regs}
 
 -- the command that is kept so, beside all blocks
 abbrev pub command_in : List Block → HostEntry → HostCommand

@@ -4,7 +4,8 @@ use Rattle.std.specs.Str.{bytes_eq}
 use Rattle.nesc_base.specs.Name.{name_of}
 use Rattle.nesc_base.specs.declared.numbers.FnNo.{FnNo}
 use Rattle.nesc_requests.specs.declared.host.HostCommand.{HostCommand}
-use Rattle.nesc_requests.specs.declared.host.HostCommand.TheVariants.{Create, Delete, Resize, Put, Map, Get, Attach, Detach, Sync, Regs}
+use Rattle.nesc_requests.specs.declared.host.HostCommand.TheVariants.{Create, Delete, Resize, Put, Map}
+use Rattle.nesc_requests.specs.declared.host.HostCommand.TheVariants.{Get, Attach, Detach, Sync, Regs}
 use Rattle.script_lang.specs.Numbers.{function_of, length_of}
 use Rattle.script_lang.specs.Runs.{asked_run_of, buffer_for, written_run_of}
 use Rattle.script_lang.specs.Words.{is_trimmed, words_of, ◌>>=◌}

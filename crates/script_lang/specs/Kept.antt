@@ -1,5 +1,6 @@
 -- What `Commands` keeps: commands and requests beside the blocks that they write.
-use Rattle.std.specs.Prelude.{◌≡◌, ℕ, ◌-◌, Bool, false, List, [], ◌++◌, length, map, Option, Some, None, IfSome, option_to_list}
+use Rattle.std.specs.Prelude.{◌≡◌, ℕ, ◌-◌, Bool, false, List, [], ◌++◌, length}
+use Rattle.std.specs.Prelude.{map, Option, Some, None, IfSome, option_to_list}
 use Rattle.std.specs.List.{All, sum_by}
 use Rattle.nesc_base.specs.declared.block.Block.{Block}
 use Rattle.nesc_requests.specs.Buffers.{request_buffers}
@@ -69,7 +70,8 @@ pub record AddsIdle (functions : ℕ) (named all : List Guest) : Type 0 where
 
 -- the script that is kept so
 abbrev pub script_in : Machine → List Block → List HostEntry → List Guest → Script
-script_in machine blocks host guests = record { machine = machine; host = map (command_in blocks) host; guests = map (requests_left blocks) guests }
+script_in machine blocks host guests =
+    record { machine = machine; host = map (command_in blocks) host; guests = map (requests_left blocks) guests }
 
 -- what is left, where this is kept
 abbrev pub left_of : Machine → List Block → List HostEntry → List Guest → Left
@@ -80,7 +82,8 @@ left_of machine blocks host guests = record {
 }
 
 -- all that is kept is as it may be, and there is a guest for each function
-pub record AreKept (machine : Machine) (blocks : List Block) (host : List HostEntry) (guests : List Guest) : Type 0 where
+pub record AreKept (machine : Machine) (blocks : List Block) (host : List HostEntry)
+    (guests : List Guest) : Type 0 where
   pub is_machine : IsMachine machine
   pub is_host : All (IsHostKept machine.functions blocks) host
   pub are_guests : All (IsGuest blocks) guests

@@ -1,7 +1,8 @@
 -- Which keys the tables of a commands file may have, and with which values.
 use Rattle.std.specs.Prelude.{ℕ, ◌+◌, ◌&&◌, if◌then◌else◌, Bool, true, false, List, codes, Option, Some, None, is_some}
 use Rattle.std.specs.Str.{bytes_eq}
-use Rattle.toml.specs.Data.{Data, array, Items, no_items, item, Members, no_members, member, as_integer, as_str, as_table}
+use Rattle.toml.specs.Data.{Data, array, Items, no_items, item, Members}
+use Rattle.toml.specs.Data.{no_members, member, as_integer, as_str, as_table}
 use Rattle.script_lang.specs.declared.fault.InputFault.{InputFault}
 use Rattle.script_lang.specs.declared.fault.InputFault.TheVariants.{BadKey}
 use Rattle.script_lang.specs.declared.keys.Level.{Level}

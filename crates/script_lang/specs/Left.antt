@@ -6,8 +6,8 @@ use Rattle.nesc_requests.specs.declared.host.HostCommand.{HostCommand}
 use Rattle.nesc_requests.specs.declared.machine.Machine.{Machine}
 use Rattle.nesc_requests.specs.declared.request.Request.{Request}
 
--- what is left of a script, whether the last request that was taken of each guest, numbered from 1, is out, and how many
--- buffers are kept with requests that came back
+-- what is left of a script, whether the last request that was taken of each guest, numbered from 1, is out, and how
+-- many buffers are kept with requests that came back
 pub record Left : Type 0 where
   pub script : Script
   pub out : List Bool

@@ -1,7 +1,9 @@
 -- The numbers of the machine, as the table `machine` gives them.
-use Rattle.std.specs.Prelude.{ℕ, ℤ, pos, ◌&&◌, nat_le, if◌then◌else◌, List, codes, Result, Ok, Err, option_and_then, unwrap_or}
+use Rattle.std.specs.Prelude.{ℕ, ℤ, pos, ◌&&◌, nat_le, if◌then◌else◌, List}
+use Rattle.std.specs.Prelude.{codes, Result, Ok, Err, option_and_then, unwrap_or}
 use Rattle.toml.specs.Data.{Members, as_integer, get_member}
-use Rattle.nesc_requests.specs.Machine.{default_machine, fewest_nodes, most_functions, most_nodes, most_queued, most_translations}
+use Rattle.nesc_requests.specs.Machine.{default_machine, fewest_nodes, most_functions}
+use Rattle.nesc_requests.specs.Machine.{most_nodes, most_queued, most_translations}
 use Rattle.nesc_requests.specs.declared.machine.Machine.{Machine}
 use Rattle.script_lang.specs.Keys.{bad_key}
 use Rattle.script_lang.specs.Reads.{unless, ◌>>=◌}

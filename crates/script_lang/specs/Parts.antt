@@ -1,5 +1,6 @@
 -- What the parts of the readers say: words as they are cut from a text, and what is read of one string.
-use Rattle.std.specs.Prelude.{◌≡◌, ℕ, ◌<◌, true, false, List, [], ◌∷◌, ◌++◌, length, Option, Some, None, Result, Ok, Err}
+use Rattle.std.specs.Prelude.{◌≡◌, ℕ, ◌<◌, true, false, List, [], ◌∷◌, ◌++◌}
+use Rattle.std.specs.Prelude.{length, Option, Some, None, Result, Ok, Err}
 use Rattle.std.specs.List.{All}
 use Rattle.script_lang.specs.declared.fault.Unread.{Unread}
 use Rattle.script_lang.specs.declared.fault.Unread.TheVariants.{NoMemory, Bad}

@@ -9,7 +9,8 @@ use Rattle.script_lang.specs.Words.{each, ◌>>=◌}
 
 -- BLOCK.., 1 to 64 blocks
 abbrev pub blocks_of : List (List ℕ) → Option (List Block)
-blocks_of texts = if nat_le 1 (length texts) && nat_le (length texts) most_in_request then each block_of_text texts else None
+blocks_of texts =
+    if nat_le 1 (length texts) && nat_le (length texts) most_in_request then each block_of_text texts else None
 
 -- V BLOCK.., the blocks to write
 abbrev pub written_run_of : List (List ℕ) → Option (ℕ × List Block)

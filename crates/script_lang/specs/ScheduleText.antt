@@ -1,5 +1,6 @@
 -- What a schedule says: its steps, or the first cause for which it is refused.
-use Rattle.std.specs.Prelude.{ℕ, pos, ◌+◌, nat_le, if◌then◌else◌, List, [], ◌∷◌, ◌++◌, replicate, ok_or, Result, Ok, Err}
+use Rattle.std.specs.Prelude.{ℕ, pos, ◌+◌, nat_le, if◌then◌else◌, List, []}
+use Rattle.std.specs.Prelude.{◌∷◌, ◌++◌, replicate, ok_or, Result, Ok, Err}
 use Rattle.nesc_requests.specs.declared.word.Word.{Word}
 use Rattle.script_lang.specs.Limits.{most_steps, short_enough}
 use Rattle.script_lang.specs.Reads.{◌>>=◌}

@@ -1,5 +1,6 @@
 -- A text as words, and steps that may give nothing.
-use Rattle.std.specs.Prelude.{ℕ, ◌+◌, ◌-◌, ◌==◌, not, ◌&&◌, ◌||◌, Bool, if◌then◌else◌, List, [], ◌∷◌, length, map, slice_index, Option, Some, None}
+use Rattle.std.specs.Prelude.{ℕ, ◌+◌, ◌-◌, ◌==◌, not, ◌&&◌, ◌||◌, Bool, if◌then◌else◌}
+use Rattle.std.specs.Prelude.{List, [], ◌∷◌, length, map, slice_index, Option, Some, None}
 use Rattle.std.specs.List.{filter_map, slice_split}
 use Rattle.script_lang.specs.declared.words.Place.{Place}
 use Rattle.script_lang.specs.declared.words.Separators.{Separators}

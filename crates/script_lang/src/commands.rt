@@ -16,9 +16,9 @@ use std::marker::Model;
 
 /// The machine of a commands file, and the commands of the host and the requests of the guests that are left.
 ///
-/// They are kept apart from their blocks, and are given out with buffers that the caller brings, so that the memory they
-/// take follows the text; no call takes more. A request that comes back keeps its buffer: as many buffers are kept so as
-/// there are functions, at most.
+/// They are kept apart from their blocks, and are given out with buffers that the caller brings, so that the memory
+/// they take follows the text; no call takes more. A request that comes back keeps its buffer: as many buffers are kept
+/// so as there are functions, at most.
 #[derive(Drop)]
 pub struct Commands {
     machine: Machine,
@@ -83,17 +83,19 @@ impl Commands {
         Some(entry.give(&self.store, spare))
     }
 
-    /// Takes the next request of a function's guest: the one that came back, which has its buffer still, or else the first
-    /// that is left, with a spare buffer where it has blocks. One has to be spare. `None` says that no request is left, or
-    /// that there is no such function.
+    /// Takes the next request of a function's guest: the one that came back, which has its buffer still, or else the
+    /// first that is left, with a spare buffer where it has blocks. One has to be spare. `None` says that no request is
+    /// left, or that there is no such function.
     #[tactic(auto, using(crate::proofs::LeftLemmas::kept_few))]
     pub fn take_guest(&mut self, f: FnNo, spare: &mut Buffers) -> Option<Request>
         requires some { 1 ≤ spare.old.count }
         ensures next { IfSome result (λ request. TakesRequest self.old f.0 request self.new) }
         ensures fits { IfSome result MayAsk }
         ensures out { IfSome result (λ _. is_out self.new f.0 ≡ true) }
-        ensures spare { IfSome result (λ request. spare.new.count + self.new.kept + request_buffers request ≡ spare.old.count + self.old.kept) }
-        ensures none { IfNone result ((requests_of self.old.script f.0 ≡ []) × (self.new ≡ self.old) × (spare.new ≡ spare.old)) }
+        ensures spare { IfSome result (λ request.
+            spare.new.count + self.new.kept + request_buffers request ≡ spare.old.count + self.old.kept) }
+        ensures none { IfNone result
+            ((requests_of self.old.script f.0 ≡ []) × (self.new ≡ self.old) × (spare.new ≡ spare.old)) }
         ensures room { spare.new.room ≡ spare.old.room }
         ensures few { self.new.kept ≤ self.new.script.machine.functions }
     {
@@ -101,8 +103,9 @@ impl Commands {
         take_request(guest, &self.store, spare)
     }
 
-    /// Puts a request back, which is the guest's next again and keeps its buffer. The guest's last request has to be out,
-    /// and this one to be within the limits of each that is taken: its first block 0 to 1,048,575, and 1 to 64 blocks.
+    /// Puts a request back, which is the guest's next again and keeps its buffer. The guest's last request has to be
+    /// out, and this one to be within the limits of each that is taken: its first block 0 to 1,048,575, and 1 to 64
+    /// blocks.
     pub fn give_back(&mut self, f: FnNo, request: Request)
         requires out { is_out self.old f.0 ≡ true }
         requires fits { MayAsk request }

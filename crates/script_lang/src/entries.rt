@@ -1,6 +1,7 @@
 ghost use Rattle.std.specs.Prelude.{◌≡◌, ◌+◌, ◌≤◌, length};
 ghost use Rattle.nesc_requests.specs.Buffers.{command_buffers, request_buffers};
-ghost use Rattle.script_lang.specs.Entries.{IsCount, IsGuestEntry, IsHostEntry, command_in, guest_entry_blocks, host_entry_blocks, request_in};
+ghost use Rattle.script_lang.specs.Entries.{IsCount, IsGuestEntry, IsHostEntry, command_in};
+ghost use Rattle.script_lang.specs.Entries.{guest_entry_blocks, host_entry_blocks, request_in};
 ghost use Rattle.script_lang.specs.Runs.{buffer_for};
 ghost use Rattle.script_lang.specs.Stored.{IsStored, blocks_at};
 
@@ -8,8 +9,8 @@ use crate::store::{Store, StoredRun};
 use nesc_base::{Blocks, FnNo, Name};
 use nesc_requests::{Buffers, HostCommand, Request};
 
-/// A command of the host as it is kept: what it writes stands in the store, and for what it reads the number of blocks is
-/// kept alone.
+/// A command of the host as it is kept: what it writes stands in the store, and for what it reads the number of blocks
+/// is kept alone.
 #[derive(Clone, Copy)]
 pub enum HostEntry {
     Create { name: Name, length: u32 },

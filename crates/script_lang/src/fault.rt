@@ -28,7 +28,8 @@ pub enum Limit {
 /// Why a text was not read.
 #[derive(Clone, Copy, Debug, PartialEq, Eq, Error)]
 pub enum InputFault {
-    /// There was no memory for what it says. This may come in place of any other fault, unless the text has too many bytes.
+    /// There was no memory for what it says. This may come in place of any other fault, unless the text has too many
+    /// bytes.
     #[error("out of memory")]
     NoMemory,
     /// A commands file is no TOML document.
@@ -38,8 +39,8 @@ pub enum InputFault {
     /// `machine`, and the place of the key among all keys of that table in the order of their bytes, counted from 1.
     #[error("bad key")]
     BadKey { table: u8, place: u32 },
-    /// A string that is no command or request: of the host, 0, or of a guest, by the number of its function, and which of
-    /// that actor's strings it is, counted from 1.
+    /// A string that is no command or request: of the host, 0, or of a guest, by the number of its function, and which
+    /// of that actor's strings it is, counted from 1.
     #[error("bad command")]
     BadCommand { actor: u8, index: u32 },
     /// A word that no schedule has: where its first byte stands, by line and by byte of the line, both counted from 1.

@@ -8,8 +8,8 @@ use crate::store::Store;
 use nesc_requests::{Buffers, Request};
 use std::collections::VecDeque;
 
-/// The requests of one guest that are left: one that came back, with its buffer, and those that are kept. And whether any
-/// was taken: the last of them is out, unless it came back.
+/// The requests of one guest that are left: one that came back, with its buffer, and those that are kept. And whether
+/// any was taken: the last of them is out, unless it came back.
 #[derive(Drop)]
 pub struct Guest {
     pub back: Option<Request>,
@@ -32,15 +32,17 @@ impl Guest {
     }
 }
 
-/// Takes a guest's next request: the one that came back, or else the first that is kept, with a spare buffer where it has
-/// blocks. `None` says that none is left.
+/// Takes a guest's next request: the one that came back, or else the first that is kept, with a spare buffer where it
+/// has blocks. `None` says that none is left.
 pub fn take_request(guest: &mut Guest, store: &Store, spare: &mut Buffers) -> Option<Request>
     requires kept { IsGuest store.now guest.old }
     requires some { 1 ≤ spare.old.count }
-    ensures next { IfSome result (λ request. requests_left store.now guest.old ≡ request ∷ requests_left store.now guest.new) }
+    ensures next { IfSome result (λ request.
+        requests_left store.now guest.old ≡ request ∷ requests_left store.now guest.new) }
     ensures fits { IfSome result MayAsk }
     ensures out { OnSome result (out_in guest.new ≡ true) }
-    ensures spare { IfSome result (λ request. spare.new.count + kept_in guest.new + request_buffers request ≡ spare.old.count + kept_in guest.old) }
+    ensures spare { IfSome result (λ request.
+        spare.new.count + kept_in guest.new + request_buffers request ≡ spare.old.count + kept_in guest.old) }
     ensures none { IfNone result ((requests_left store.now guest.old ≡ []) × (requests_left store.now guest.new ≡ [])
         × (out_in guest.new ≡ out_in guest.old) × (kept_in guest.new ≡ kept_in guest.old)) }
     ensures still { IfNone result (spare.new ≡ spare.old) }

@@ -1,6 +1,8 @@
 ghost use Rattle.std.specs.Prelude.{◌≡◌, [], length, map, option_map, IfOk, IfSome, OnOk};
 ghost use Rattle.script_lang.specs.Entries.{IsHostEntry, IsUnwritten, command_in};
-ghost use Rattle.script_lang.specs.HostText.{attach_of, command_of_words, create_of, delete_of, detach_of, get_of, host_command_of, map_of, put_of, regs_of, resize_of, sync_of, unwritten_of};
+ghost use Rattle.script_lang.specs.HostText.{attach_of, command_of_words, create_of, delete_of};
+ghost use Rattle.script_lang.specs.HostText.{detach_of, get_of, host_command_of, map_of, put_of};
+ghost use Rattle.script_lang.specs.HostText.{regs_of, resize_of, sync_of, unwritten_of};
 ghost use Rattle.script_lang.specs.Parts.{Says};
 ghost use Rattle.script_lang.specs.Stored.{Grows};
 
@@ -127,7 +129,8 @@ fn regs_of(functions: u8, words: &[&[u8]]) -> Option<HostEntry>
 
 /// The command of a first word and those behind it, if it writes no blocks.
 fn unwritten_of(functions: u8, first: &[u8], words: &[&[u8]]) -> Option<HostEntry>
-    ensures read { option_map (command_in []) result ≡ unwritten_of functions first.now (map (λ word. word.now) words.now) }
+    ensures read { option_map (command_in []) result ≡ unwritten_of functions first.now
+        (map (λ word. word.now) words.now) }
     ensures unwritten { IfSome result IsUnwritten }
 {
     if first == b"create".as_slice() {
@@ -168,7 +171,8 @@ fn command_of_words(functions: u8, store: &mut Store, words: &[&[u8]]) -> Result
     unwritten_of(functions, first, words).ok_or(Unread::Bad)
 }
 
-/// The command that a string is, for a machine of so many functions. What it writes is put behind the blocks of the store.
+/// The command that a string is, for a machine of so many functions. What it writes is put behind the blocks of the
+/// store.
 pub fn host_entry_of(
     alloc: Global,
     functions: u8,

@@ -1,6 +1,7 @@
 ghost use Rattle.std.specs.Prelude.{◌≡◌};
 ghost use Rattle.toml.specs.View.{items_view, table_view, view};
-ghost use Rattle.script_lang.specs.Keys.{all_items, bad_key, is_key, is_list_of_guests, is_list_of_strings, is_machine_key, is_string, is_top_key, table_number};
+ghost use Rattle.script_lang.specs.Keys.{all_items, bad_key, is_key, is_list_of_guests, is_list_of_strings};
+ghost use Rattle.script_lang.specs.Keys.{is_machine_key, is_string, is_top_key, table_number};
 ghost use Rattle.script_lang.specs.Reads.{ReadsAs, unless};
 
 use crate::fault::InputFault;
@@ -38,7 +39,8 @@ impl Level {
 
     /// Judges the keys of a table. The first that it may not have is refused, by its place in the order of bytes.
     pub fn judge(self, table: &Table) -> Result<(), InputFault>
-        ensures { ReadsAs (λ _. table_view table.now) result (unless (bad_key self (table_view table.now)) (table_view table.now)) }
+        ensures { ReadsAs
+            (λ _. table_view table.now) result (unless (bad_key self (table_view table.now)) (table_view table.now)) }
     {
         let mut place = 0u32;
         for (key, value) in table.iter() {

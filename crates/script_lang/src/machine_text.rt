@@ -18,13 +18,13 @@ const MOST_FUNCTIONS: u16 = Machine::MOST_FUNCTIONS as u16;
 const MOST_QUEUED: u16 = Machine::MOST_QUEUED as u16;
 
 /// How few nodes of trees there are.
-const FEWEST_NODES: u16 = 8;
+const FEWEST_NODES: u16 = Machine::FEWEST_NODES;
 
 /// How many nodes of trees there are at most.
-const MOST_NODES: u16 = 4096;
+const MOST_NODES: u16 = Machine::MOST_NODES;
 
 /// How many translations the cache has at most.
-const MOST_TRANSLATIONS: u16 = 64;
+const MOST_TRANSLATIONS: u16 = Machine::MOST_TRANSLATIONS as u16;
 
 /// The value at a key of a table.
 pub fn value_at<'a>(table: &'a Table, key: &str) -> Option<&'a Value>

@@ -1,6 +1,7 @@
 ghost use Rattle.std.specs.Prelude.{◌≡◌, ◌≤◌, IfSome};
 ghost use Rattle.script_lang.specs.Entries.{IsCount};
-ghost use Rattle.script_lang.specs.Numbers.{block_number_of, count_of, function_of, length_of, number_from_one, number_to, times_of};
+ghost use Rattle.script_lang.specs.Numbers.{block_number_of, count_of, function_of};
+ghost use Rattle.script_lang.specs.Numbers.{length_of, number_from_one, number_to, times_of};
 
 use nesc_base::{FnNo, LONGEST_FILE, MOST_IN_REQUEST};
 use text_kit::number;

@@ -2,7 +2,8 @@ ghost use Rattle.std.specs.Prelude.{◌≡◌, ◌≤◌, length, map, OnOk, IfO
 ghost use Rattle.std.specs.List.{All};
 ghost use Rattle.toml.specs.Data.{get_member};
 ghost use Rattle.toml.specs.View.{items_view, table_view, view};
-ghost use Rattle.script_lang.specs.CommandsText.{guests_of, guests_said, host_said, items_in, requests_said, strings_of};
+ghost use Rattle.script_lang.specs.CommandsText.{guests_of, guests_said, host_said};
+ghost use Rattle.script_lang.specs.CommandsText.{items_in, requests_said, strings_of};
 ghost use Rattle.script_lang.specs.Entries.{IsGuestEntry, IsHostEntry, command_in, request_in};
 ghost use Rattle.script_lang.specs.Kept.{IsFreshGuest, requests_left};
 ghost use Rattle.script_lang.specs.Parts.{refusal_of};
@@ -58,7 +59,8 @@ pub fn read_host(
     store: &mut Store,
     values: &[Value],
 ) -> Result<VecDeque<HostEntry>, InputFault>
-    ensures read { ReadsAs (λ entries. map (command_in store.new) entries.items) result (host_said functions (strings_of (items_view values.now))) }
+    ensures read { ReadsAs (λ entries. map (command_in store.new) entries.items) result
+        (host_said functions (strings_of (items_view values.now))) }
     ensures kept { IfOk result (λ entries. All (IsHostEntry (length store.new)) entries.items) }
     ensures grows { OnOk result (Grows store.old store.new) }
 {
@@ -75,15 +77,16 @@ pub fn read_host(
     Ok(entries)
 }
 
-/// The requests of the guest of a function that an array of strings says. What they write is put behind the blocks of the
-/// store.
+/// The requests of the guest of a function that an array of strings says. What they write is put behind the blocks of
+/// the store.
 fn read_requests(
     alloc: Global,
     f: u8,
     store: &mut Store,
     values: &[Value],
 ) -> Result<VecDeque<GuestEntry>, InputFault>
-    ensures read { ReadsAs (λ entries. map (request_in store.new) entries.items) result (requests_said f (strings_of (items_view values.now))) }
+    ensures read { ReadsAs (λ entries. map (request_in store.new) entries.items) result
+        (requests_said f (strings_of (items_view values.now))) }
     ensures kept { IfOk result (λ entries. All (IsGuestEntry (length store.new)) entries.items) }
     ensures grows { OnOk result (Grows store.old store.new) }
 {
@@ -108,7 +111,8 @@ pub fn read_guests(
     values: &[Value],
 ) -> Result<Vec<Guest>, InputFault>
     requires few { length values.now ≤ 255 }
-    ensures read { ReadsAs (λ guests. map (requests_left store.new) guests.items) result (guests_said 1 (guests_of (items_view values.now))) }
+    ensures read { ReadsAs (λ guests. map (requests_left store.new) guests.items) result
+        (guests_said 1 (guests_of (items_view values.now))) }
     ensures fresh { IfOk result (λ guests. All (IsFreshGuest (length store.new)) guests.items) }
     ensures count { IfOk result (λ guests. length guests.items ≡ length values.now) }
     ensures grows { OnOk result (Grows store.old store.new) }

@@ -31,7 +31,8 @@ fn blocks_from(store: &mut Store, v: u32, texts: &[&[u8]]) -> Result<StoredRun, 
 
 /// V BLOCK.., the blocks to write, which are put behind those of the store.
 pub fn written_run_of(store: &mut Store, words: &[&[u8]]) -> Result<StoredRun, Unread>
-    ensures read { Says (λ run. (run.v, blocks_at store.new run)) result (written_run_of (map (λ word. word.now) words.now)) }
+    ensures read { Says
+        (λ run. (run.v, blocks_at store.new run)) result (written_run_of (map (λ word. word.now) words.now)) }
     ensures stored { IfOk result (IsStored (length store.new)) }
     ensures grows { OnOk result (Grows store.old store.new) }
 {

@@ -124,10 +124,10 @@ fn all_steps(alloc: Global, text: &[u8], functions: u8) -> Result<Schedule, Inpu
 
 /// Reads a schedule for a machine of so many functions, any number of them.
 ///
-/// It is refused as `OverLimit` with `Text` and 16,777,217 where it has more than 16,777,216 bytes, and else at the first
-/// word that is none of a schedule or names no function of the machine, as `BadWord` with the word's line and column, or
-/// that brings the steps past 1,048,576, as `OverLimit` with `Steps` and the steps with that word. Where the text is not
-/// too long, `NoMemory` may come instead.
+/// It is refused as `OverLimit` with `Text` and 16,777,217 where it has more than 16,777,216 bytes, and else at the
+/// first word that is none of a schedule or names no function of the machine, as `BadWord` with the word's line and
+/// column, or that brings the steps past 1,048,576, as `OverLimit` with `Steps` and the steps with that word. Where the
+/// text is not too long, `NoMemory` may come instead.
 #[tactic(auto, unfolding(crate::specs::ScheduleText::schedule_of))]
 pub fn read_schedule(alloc: Global, text: &[u8], functions: u8) -> Result<Schedule, InputFault>
     ensures read { Reads result (schedule_of functions text.now) }

@@ -1,6 +1,7 @@
 ghost use Rattle.std.specs.Prelude.{◌≡◌, ◌<◌, ◌≤◌, length, IfSome};
 ghost use Rattle.std.specs.List.{position};
-ghost use Rattle.script_lang.specs.ScheduleWords.{is_colon, is_served, prune_of, single_of, steps_of, ticks_of, word_said};
+ghost use Rattle.script_lang.specs.ScheduleWords.{is_colon, is_served, prune_of, single_of};
+ghost use Rattle.script_lang.specs.ScheduleWords.{steps_of, ticks_of, word_said};
 
 use crate::numbers::{block_number_of, function_of, times_of};
 use nesc_requests::Word;

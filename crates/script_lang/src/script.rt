@@ -3,7 +3,8 @@ ghost use Rattle.std.specs.List.{All, sum_by};
 ghost use Rattle.toml.specs.Data.{get_member};
 ghost use Rattle.toml.specs.View.{items_view, table_view};
 ghost use Rattle.nesc_requests.specs.Machine.{IsMachine};
-ghost use Rattle.script_lang.specs.CommandsText.{blocks_in_all, commands_of, commands_said, few_blocks, few_guests, guests_of, script_of, strings_said};
+ghost use Rattle.script_lang.specs.CommandsText.{blocks_in_all, commands_of, commands_said, few_blocks};
+ghost use Rattle.script_lang.specs.CommandsText.{few_guests, guests_of, script_of, strings_said};
 ghost use Rattle.script_lang.specs.Entries.{guest_entry_blocks, host_entry_blocks};
 ghost use Rattle.script_lang.specs.Kept.{AddsIdle, IsGuest, IsHostKept, out_in, script_in};
 ghost use Rattle.script_lang.specs.Left.{untouched};
@@ -69,7 +70,8 @@ fn blocks_of_guest(entries: &VecDeque<GuestEntry>) -> Result<u64, NoMemory>
 
 /// How many blocks the requests of all guests have.
 fn blocks_of_guests(guests: &[Guest]) -> Result<u64, NoMemory>
-    ensures { IfOk result (λ blocks. blocks ≡ sum_by (λ guest. sum_by guest_entry_blocks guest.entries.items) guests.now) }
+    ensures { IfOk result (λ blocks.
+        blocks ≡ sum_by (λ guest. sum_by guest_entry_blocks guest.entries.items) guests.now) }
 {
     let mut blocks = 0u64;
     for guest in guests {
@@ -98,7 +100,8 @@ fn few_blocks(blocks: u64) -> Result<(), InputFault>
 #[tactic(auto, using(crate::proofs::GuestLemmas::guest_count))]
 fn few_guests(functions: u8, named: &[Value]) -> Result<(), InputFault>
     ensures few { OnOk result (length named.now ≤ functions) }
-    ensures read { ReadsAs (λ _. guests_of (items_view named.now)) result (few_guests functions (guests_of (items_view named.now))) }
+    ensures read { ReadsAs
+        (λ _. guests_of (items_view named.now)) result (few_guests functions (guests_of (items_view named.now))) }
 {
     if named.len() <= usize::from(functions) {
         return Ok(());
@@ -120,7 +123,8 @@ struct Parts {
 
 /// The commands and requests of a text for a machine, however many blocks they have.
 fn read_parts(alloc: Global, machine: Machine, top: &Table) -> Result<Parts, InputFault>
-    ensures read { ReadsAs (λ parts. script_in machine parts.store parts.host.items parts.guests.items) result (strings_said machine (table_view top.now)) }
+    ensures read { ReadsAs (λ parts. script_in machine parts.store parts.host.items parts.guests.items) result
+        (strings_said machine (table_view top.now)) }
     ensures host { IfOk result (λ parts. All (IsHostKept machine.functions parts.store) parts.host.items) }
     ensures guests { IfOk result (λ parts. All (IsGuest parts.store) parts.guests.items) }
     ensures none { IfOk result (λ parts. All (λ guest. guest.back ≡ None) parts.guests.items) }
@@ -173,9 +177,10 @@ fn read_document(alloc: Global, top: &Table) -> Result<Commands, InputFault>
 /// Reads a commands file.
 ///
 /// It is refused by the first of these that applies: `OverLimit` with `Text` and 16,777,217, where it has more than
-/// 16,777,216 bytes; `BadToml`; `BadKey`, the top level before `machine`; `OverLimit` with `Functions`, `Queue`, `Pool` or
-/// `Btlb` and the number; with `Guests` and how many are named; `BadCommand`, the host's strings before those of guests 1,
-/// 2, ..; and `OverLimit` with `Blocks` and how many there are. `NoMemory` may come in place of each but the first.
+/// 16,777,216 bytes; `BadToml`; `BadKey`, the top level before `machine`; `OverLimit` with `Functions`, `Queue`, `Pool`
+/// or `Btlb` and the number; with `Guests` and how many are named; `BadCommand`, the host's strings before those of
+/// guests 1, 2, ..; and `OverLimit` with `Blocks` and how many there are. `NoMemory` may come in place of each but the
+/// first.
 pub fn read_commands(alloc: Global, text: &[u8]) -> Result<Commands, InputFault>
     ensures read { ReadsAs (λ commands. commands.script) result (commands_of text.now) }
     ensures memory { IfErr result (λ fault. fault ≡ refusal.NoMemory → length text.now ≤ most_bytes) }

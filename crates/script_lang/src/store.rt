@@ -13,8 +13,8 @@ pub enum Kept {
     Full(u32),
 }
 
-/// A place in a file, 0 to 1,048,575, and the blocks from there on: where the first of them stands in the store, counted
-/// from 0, and how many they are, 1 to 64.
+/// A place in a file, 0 to 1,048,575, and the blocks from there on: where the first of them stands in the store,
+/// counted from 0, and how many they are, 1 to 64.
 #[derive(Clone, Copy)]
 pub struct StoredRun {
     pub v: u32,

@@ -342,7 +342,8 @@ fn shape_of(command: &HostCommand) -> (&str, u8, u32, u32) {
 #[test]
 fn commands_are_taken(rt: HostRuntime) -> Result<(), Fail> {
     let text =
-        b"host = ['create a 5', 'delete b', 'resize c 0', 'put d 7 z z z', 'map e 8 64', 'get f 9 2', 'attach 2 g', 'detach 1', 'sync', 'regs 2']\nmachine.functions = 2";
+        b"host = ['create a 5', 'delete b', 'resize c 0', 'put d 7 z z z', 'map e 8 64', 'get f 9 2', \
+            'attach 2 g', 'detach 1', 'sync', 'regs 2']\nmachine.functions = 2";
     let mut commands = read_commands(rt.alloc(), text).ok().ok_or("memory")?;
     for want in [
         ("create", b'a', 5, 0),

@@ -97,8 +97,8 @@ fn split_word(separators: Separators, text: &[u8]) -> (&[u8], &[u8])
     (text, &[])
 }
 
-/// The separators in front of the first word of a text, that word, and the text behind it. `None` says that the text has
-/// no word.
+/// The separators in front of the first word of a text, that word, and the text behind it. `None` says that the text
+/// has no word.
 pub fn next_word(separators: Separators, text: &[u8]) -> Option<(&[u8], &[u8], &[u8])>
     ensures cut { IfSome result (λ cut. IsCut separators text.now cut.0.now cut.1.now cut.2.now) }
     ensures shorter { IfSome result (λ cut. length cut.2.now < length text.now) }

@@ -1,6 +1,7 @@
 -- The list of a slot, which says where the slot's blocks belong.
 use Rattle.std.specs.Prelude.{◌≡◌, ℕ, ◌+◌, ◌*◌, ◌<◌, ◌≤◌, List, ◌++◌, length, take, drop, slice_get, Some}
 use Rattle.std.specs.List.{AllByRecursion}
+use Rattle.nesc_base.specs.Block.{block_size}
 use Rattle.nesc_base.specs.declared.block.Block.{Block}
 use Rattle.nesc_base.specs.declared.geometry.Geometry.{Geometry}
 use Rattle.nesc_base.specs.Geometry.{list_blocks, rounded_up, slot_room, table_at, total}
@@ -25,11 +26,12 @@ pub record IsListOf (geometry : Geometry) (blocks : List Block) (targets : List 
 
 -- block b of the list, with zeros behind the last target
 unfoldable pub list_block : List ℕ → ℕ → Block
-list_block targets b = block_of_bytes (padded 1024 (take 1024 (drop (1024 * b) (list_bytes targets))))
+list_block targets b =
+    block_of_bytes (padded block_size (take block_size (drop (block_size * b) (list_bytes targets))))
 
 -- how many blocks the list of so many targets needs
 abbrev pub blocks_needed : ℕ → ℕ
-blocks_needed count = rounded_up (4 + 4 * count) 1024
+blocks_needed count = rounded_up (4 + 4 * count) block_size
 
 -- the first of these blocks, as many as it needs, are the list of these targets
 pub record BeginsWithList (geometry : Geometry) (targets : List ℕ) (blocks : List Block) : Type 0 where

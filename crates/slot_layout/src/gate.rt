@@ -25,13 +25,13 @@ pub fn open_gate() -> Block
 #[cfg(test)]
 mod tests {
     use super::is_open;
-    use nesc_base::Block;
+    use nesc_base::{BLOCK_BYTES, Block};
 
     #[test]
     fn a_torn_gate_is_closed(rt: HostRuntime) {
-        let mut gate = Block([0xA5; 1024]);
+        let mut gate = Block([0xA5; BLOCK_BYTES]);
         assert!(rt; is_open(&gate));
-        gate.0[512..].fill(0);
+        gate.0[BLOCK_BYTES / 2..].fill(0);
         assert!(rt; !is_open(&gate));
     }
 }

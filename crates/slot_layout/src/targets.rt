@@ -65,7 +65,8 @@ fn list_number(targets: &[u32], i: usize) -> u32
 
 /// A list reads back from the blocks that it needs, whatever stands in the list blocks behind them.
 pub fn lists_read_back()
-    ensures { (geometry : Geometry) (targets : List ℕ) (blocks : List Block) → AreTargets geometry targets → BeginsWithList geometry targets blocks → IsListOf geometry blocks targets }
+    ensures { (geometry : Geometry) (targets : List ℕ) (blocks : List Block) → AreTargets geometry targets
+        → BeginsWithList geometry targets blocks → IsListOf geometry blocks targets }
 {}
 
 #[cfg(test)]

@@ -1,4 +1,5 @@
-ghost use Rattle.std.specs.Prelude.{◌≡◌, ◌≢◌, ◌<◌, ◌≤◌, true, ◌+◌, ◌++◌, [], IfOk, IsErr, OnErr, OnOk, drop, length, take, vec_capacity, vec_len};
+ghost use Rattle.std.specs.Prelude.{◌≡◌, ◌≢◌, ◌<◌, ◌≤◌, true, ◌+◌, ◌++◌, [], IfOk, IsErr};
+ghost use Rattle.std.specs.Prelude.{OnErr, OnOk, drop, length, take, vec_capacity, vec_len};
 ghost use Rattle.nesc_base.specs.Fault.{HasCause};
 ghost use Rattle.nesc_base.specs.Sink.{Grows, StaysLent};
 ghost use Rattle.text_kit.specs.Known.{Keeps, followed_by};
@@ -37,7 +38,8 @@ impl Buffer {
 
     /// Hands on all that is gathered. An `Err` says that the sink failed: what it did not take stays gathered.
     fn hand_on_all<K: Sink>(&mut self, sink: &mut K) -> Result<(), WriteFault>
-        ensures keeps { Keeps (followed_by (K.taken sink.old) (gathered_in self.old)) (followed_by (K.taken sink.new) (gathered_in self.new)) }
+        ensures keeps { Keeps (followed_by (K.taken sink.old) (gathered_in self.old))
+            (followed_by (K.taken sink.new) (gathered_in self.new)) }
         ensures empty { OnOk result (gathered_in self.new ≡ []) }
         ensures stays_lent { StaysLent (K.lent sink.old) (K.lent sink.new) }
         ensures more { Grows (K.taken sink.old) (K.taken sink.new) }
@@ -50,8 +52,10 @@ impl Buffer {
 
     /// Where it is full, hands on what the sink takes in one call. `false` says that it took nothing.
     fn make_room<K: Sink>(&mut self, sink: &mut K) -> Result<bool, WriteFault>
-        ensures keeps { Keeps (followed_by (K.taken sink.old) (gathered_in self.old)) (followed_by (K.taken sink.new) (gathered_in self.new)) }
-        ensures err { OnErr result (followed_by (K.taken sink.new) (gathered_in self.new) ≡ followed_by (K.taken sink.old) (gathered_in self.old)) }
+        ensures keeps { Keeps (followed_by (K.taken sink.old) (gathered_in self.old))
+            (followed_by (K.taken sink.new) (gathered_in self.new)) }
+        ensures err { OnErr result (followed_by (K.taken sink.new) (gathered_in self.new) ≡ followed_by
+            (K.taken sink.old) (gathered_in self.old)) }
         ensures stays_lent { StaysLent (K.lent sink.old) (K.lent sink.new) }
         ensures more { Grows (K.taken sink.old) (K.taken sink.new) }
         ensures room { result ≡ Ok true → length (gathered_in self.new) < 65536 }

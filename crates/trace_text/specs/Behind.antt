@@ -12,7 +12,8 @@ last_text outcome = commit_text outcome.after ++ reply_text (option_map reply_li
 
 -- and before them the trees that were given up, and the path that was built
 abbrev pub behind_text : Outcome → List ℕ
-behind_text outcome = flat_map drop_text (functions_in outcome.drops) ++ path_text (path_told outcome.answer outcome.built) ++ last_text outcome
+behind_text outcome = flat_map drop_text (functions_in outcome.drops)
+    ++ path_text (path_told outcome.answer outcome.built) ++ last_text outcome
 
 -- the line of the tree of a function, if its bit is set
 abbrev pub drop_of : ℕ → ℕ → List ℕ

@@ -2,9 +2,11 @@ ghost use Rattle.std.specs.Prelude.{◌≡◌, ◌≤◌, ◌++◌, codes};
 ghost use Rattle.std.specs.List.{flat_map};
 ghost use Rattle.nesc_requests.specs.Machine.{most_functions};
 ghost use Rattle.nesc_requests.specs.declared.host.HostAnswer.{HostAnswer};
-ghost use Rattle.plain_machine.specs.Groups.{end_group, functions_in, group_of, guest_of, line_of, path_told, reply_line_of};
+ghost use Rattle.plain_machine.specs.Groups.{end_group, functions_in, group_of, guest_of};
+ghost use Rattle.plain_machine.specs.Groups.{line_of, path_told, reply_line_of};
 ghost use Rattle.plain_machine.specs.Groups as line;
-ghost use Rattle.plain_machine.specs.Lines.{block_words, commit_text, done_text, drop_text, function_text, group_text, kind_text, line_text, path_text, reply_text};
+ghost use Rattle.plain_machine.specs.Lines.{block_words, commit_text, done_text, drop_text, function_text};
+ghost use Rattle.plain_machine.specs.Lines.{group_text, kind_text, line_text, path_text, reply_text};
 ghost use Rattle.trace_text.specs.Ends.{blocks_told, end_number, end_word};
 ghost use Rattle.text_kit.specs.Writes.{Writes};
 ghost use Rattle.trace_text.specs.Behind.{behind_text, drop_of, last_text};
@@ -16,8 +18,8 @@ use nesc_requests::{End, HostAnswer, Kind, Machine, Miss, Reply, Request, Word};
 use plain_machine::{Answer, Built, Handled, How, Outcome};
 use text_kit::write_text;
 
-/// Writes the lines of a step that this word made, which came to this outcome: the clock of a commit before it, what happened,
-/// the trees that were given up and the path that was built, the clock of a flush or a `sync`, and the reply.
+/// Writes the lines of a step that this word made, which came to this outcome: the clock of a commit before it, what
+/// happened, the trees that were given up and the path that was built, the clock of a flush or a `sync`, and the reply.
 ///
 /// An `Err` says that the sink failed. Whatever it answers, the sink has taken the first bytes of these lines.
 pub fn write_step<K: Sink>(sink: &mut K, word: Word, outcome: &Outcome) -> Result<(), WriteFault>
@@ -114,8 +116,8 @@ fn write_path<K: Sink>(
     )
 }
 
-/// Writes the line of a word that drew no event, since the host or the guest whose turn it was had nothing left to give.
-/// For other words, which give nothing of the kind, nothing is written.
+/// Writes the line of a word that drew no event, since the host or the guest whose turn it was had nothing left to
+/// give. For other words, which give nothing of the kind, nothing is written.
 ///
 /// An `Err` says that the sink failed. Whatever it answers, the sink has taken the first bytes of the line.
 pub fn write_end<K: Sink>(sink: &mut K, word: Word) -> Result<(), WriteFault>
@@ -286,7 +288,8 @@ fn write_registers<K: Sink>(
     kind: u32,
     pending: u32,
 ) -> Result<(), WriteFault>
-    ensures { Writes K.taken K.faults K.lent sink.old sink.new (line_text (line.host (HostAnswer.Regs size block count kind pending))) result }
+    ensures { Writes K.taken K.faults K.lent sink.old sink.new
+        (line_text (line.host (HostAnswer.Regs size block count kind pending))) result }
 {
     write_pieces(
         sink,
@@ -342,7 +345,8 @@ fn kind_text(kind: Kind) -> &'static [u8]
 
 /// Writes the line of a function that cannot go on.
 fn write_missed<K: Sink>(sink: &mut K, f: FnNo, miss: Miss, fetched: u32) -> Result<(), WriteFault>
-    ensures { Writes K.taken K.faults K.lent sink.old sink.new (line_text (line.missed f miss.v miss.kind fetched)) result }
+    ensures { Writes K.taken K.faults K.lent sink.old sink.new
+        (line_text (line.missed f miss.v miss.kind fetched)) result }
 {
     write_pieces(
         sink,

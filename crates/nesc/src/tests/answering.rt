@@ -2,7 +2,8 @@ use crate::tests::{done, new_image, run_over, tell, times};
 use std::test::Fail;
 
 /// What the host does to the files of the least image with two functions, of which the guest of function 1 writes three
-/// blocks from block 14 on. One block is free behind the `map` of 15; the disk fails to read the first block that is got.
+/// blocks from block 14 on. One block is free behind the `map` of 15; the disk fails to read the first block that is
+/// got.
 const ANSWERS: (&str, &str, &str) = (
     r#"machine = { functions = 2 }
     guest = [["w 14 z z z"]]
@@ -15,7 +16,12 @@ const ANSWERS: (&str, &str, &str) = (
         "detach 1", "delete a", "delete a"
     ]"#,
     "h h h h h h h h h h h h h h h h h h h h h h h h h h h h h h h g1 t t h h h h i1 t t i1 h h h",
-    "h ok\nh exists\nh ok\nh nofile\nh nofile\nh ok\nh nofile\nh ok\nh nofile\nh ok\nh range\nh nospace 1 2\nh range\nh nospace 1 2\nh ok\nc 42\nh ok\nc 42\nh nofile\nh range\nh media\nh data 1111111111111111 z\nh data z z z\nh notattached\nh nofile\nh ok\nh nofile\nh functiontaken\nh functiontaken\nh filetaken\nh attached\nh regs 18 0 0 0 0\nh notattached\ng 1 1\nt 1 14 walk 0\nt 1 15 miss unmapped 0\nh regs 18 15 2 2 1\nh ok\nh regs 17 15 2 2 1\nh queued\ni 1 hold 1\nt 1 15 walk 0\nt 1 16 miss unmapped 0\ni 1 nospace\nr 1 1 nospace 2\nh ok\nh ok\nh nofile\ndone 45\n",
+    "h ok\nh exists\nh ok\nh nofile\nh nofile\nh ok\nh nofile\nh ok\nh nofile\nh ok\nh range\nh nospace 1 2\n\
+        h range\nh nospace 1 2\nh ok\nc 42\nh ok\nc 42\nh nofile\nh range\nh media\nh data 1111111111111111 z\n\
+        h data z z z\nh notattached\nh nofile\nh ok\nh nofile\nh functiontaken\nh functiontaken\nh filetaken\n\
+        h attached\nh regs 18 0 0 0 0\nh notattached\ng 1 1\nt 1 14 walk 0\nt 1 15 miss unmapped 0\n\
+        h regs 18 15 2 2 1\nh ok\nh regs 17 15 2 2 1\nh queued\ni 1 hold 1\nt 1 15 walk 0\nt 1 16 miss unmapped 0\n\
+        i 1 nospace\nr 1 1 nospace 2\nh ok\nh ok\nh nofile\ndone 45\n",
 );
 
 // The opening reads seven blocks.
@@ -30,10 +36,11 @@ fn each_command_has_its_answers(rt: HostRuntime) -> Result<(), Fail> {
 
 /// What the host is refused, in the order in which it is judged.
 const REFUSALS: (&str, &str, &str) = (
-    r#"host = ["put a 0 z", "create a 2", "create a 2", "put a 1 z z", "attach 1 b", "attach 1 a", "attach 1 a", "regs 1",
-       "delete a", "detach 1", "detach 1", "regs 1"]"#,
+    r#"host = ["put a 0 z", "create a 2", "create a 2", "put a 1 z z", "attach 1 b", "attach 1 a", "attach 1 a",
+       "regs 1", "delete a", "detach 1", "detach 1", "regs 1"]"#,
     "h h h h h h h h h h h h",
-    "h nofile\nh ok\nh exists\nh range\nh nofile\nh ok\nh functiontaken\nh regs 2 0 0 0 0\nh attached\nh ok\nh notattached\nh notattached\ndone 12\n",
+    "h nofile\nh ok\nh exists\nh range\nh nofile\nh ok\nh functiontaken\nh regs 2 0 0 0 0\nh attached\nh ok\n\
+        h notattached\nh notattached\ndone 12\n",
 );
 
 /// With one block free, two are put that are not held, and then one.

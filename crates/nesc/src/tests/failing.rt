@@ -8,14 +8,17 @@ use std::test::Fail;
 /// The puts fill the slack, so that the one behind them needs a commit. Then come a flush, a `sync` and a restart.
 const COMMANDS: &str = r#"
     host = ["create a 16", "put a 0 z z z z z z z z z z z z z z z z", "put a 0 z z z z z z z z z z z z z z z z",
-        "put a 0 z z z z z z z z z z z z z z z z", "put a 0 z z z z z z z z z z z z z z z z", "put a 0 2222222222222222",
-        "attach 1 a", "put a 2 4444444444444444", "sync", "put a 3 5555555555555555", "get a 0 4"]
+        "put a 0 z z z z z z z z z z z z z z z z", "put a 0 z z z z z z z z z z z z z z z z",
+        "put a 0 2222222222222222", "attach 1 a", "put a 2 4444444444444444", "sync", "put a 3 5555555555555555",
+        "get a 0 4"]
     guest = [["w 1 3333333333333333", "f"]]"#;
 
 const SCHEDULE: &str = "h h h h h h h g1 g1 t t h h h x h";
 
 const TRACE: &str =
-    "h ok\nh ok\nh ok\nh ok\nh ok\nc 44\nh ok\nh ok\ng 1 1\ng 1 2\nt 1 1 walk 0\nr 1 1 ok 1\nt 1 flush\nc 55\nr 1 2 flushed 55\nh ok\nh ok\nc 64\nh ok\nx\nh data 2222222222222222 3333333333333333 4444444444444444 z\ndone 16\n";
+    "h ok\nh ok\nh ok\nh ok\nh ok\nc 44\nh ok\nh ok\ng 1 1\ng 1 2\nt 1 1 walk 0\nr 1 1 ok 1\nt 1 flush\nc 55\n\
+        r 1 2 flushed 55\nh ok\nh ok\nc 64\nh ok\nx\nh data 2222222222222222 3333333333333333 4444444444444444 z\n\
+        done 16\n";
 
 /// What another run reads of the file where nothing was kept, after the first commit, the flush and the `sync`.
 const NOTHING: &str = "h nofile\ndone 1\n";
@@ -42,8 +45,8 @@ fn read_again(alloc: Global, image: &MemDisk) -> Result<Told, NoMemory> {
     run_over(alloc, "host = ['get a 0 4']", "h", &mut image)
 }
 
-/// What the run says where this read of the disk fails, this write or sync of it, and this write of the trace, each counted
-/// from 1, or none of them for 0; and what another reads then.
+/// What the run says where this read of the disk fails, this write or sync of it, and this write of the trace, each
+/// counted from 1, or none of them for 0; and what another reads then.
 fn run_failing(alloc: Global, read: u64, write: u64, out: u64) -> Result<(Told, Told), NoMemory> {
     let mut image = new_image(alloc, &[read], &[write])?;
     let commands = source_of(alloc, COMMANDS.as_bytes(), &[])?;
@@ -52,8 +55,8 @@ fn run_failing(alloc: Global, read: u64, write: u64, out: u64) -> Result<(Told, 
     Ok((told, read_again(alloc, &image)?))
 }
 
-// The first sync; the first commit up to its gate, and from the sync behind that on; the flush and the `sync` likewise; and
-// the sync of the restart.
+// The first sync; the first commit up to its gate, and from the sync behind that on; the flush and the `sync` likewise;
+// and the sync of the restart.
 #[test]
 fn each_write_of_the_disk_may_fail(rt: HostRuntime) -> Result<(), Fail> {
     for (from, to, lines, kept) in [
@@ -128,7 +131,8 @@ fn a_failed_read_ends_its_request(rt: HostRuntime) -> Result<(), Fail> {
     let commands = r#"host = ["create a 4", "put a 0 3333333333333333", "sync", "attach 1 a"]
         guest = [["r 0 1", "r 0 1"]]"#;
     let trace =
-        "h ok\nh ok\nh ok\nc 14\nh ok\ng 1 1\nt 1 0 walk 0\nr 1 1 media 0\ng 1 2\nt 1 0 walk 0\nr 1 2 ok 1 3333333333333333\ndone 8\n";
+        "h ok\nh ok\nh ok\nc 14\nh ok\ng 1 1\nt 1 0 walk 0\nr 1 1 media 0\ng 1 2\nt 1 0 walk 0\n\
+            r 1 2 ok 1 3333333333333333\ndone 8\n";
     let mut image = new_image(rt.alloc(), &[8], &[])?;
     let told = run_over(rt.alloc(), commands, "h h h h g1 t g1 t", &mut image)?;
     assert_eq!(rt; told.said(), done(trace));

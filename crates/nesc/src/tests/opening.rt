@@ -30,9 +30,9 @@ fn image_of(alloc: Global, size: usize, more: &[Piece]) -> Result<Vec<Block>, No
     blocks_of(alloc, size, &pieces)
 }
 
-/// What makes such an image one that is refused, and how the line ends that says why: its size; the superblock; a list of
-/// too many targets, below the table, past the image, and not rising; the second list; the table; a file that is none; and
-/// a block that is held twice.
+/// What makes such an image one that is refused, and how the line ends that says why: its size; the superblock; a list
+/// of too many targets, below the table, past the image, and not rising; the second list; the table; a file that is
+/// none; and a block that is held twice.
 const REFUSED: [(usize, &[Piece], &str); 11] = [
     (0, &[], "size 0"),
     (290, &[], "size 290"),
@@ -65,9 +65,9 @@ fn a_refused_image_stays_as_it_is(rt: HostRuntime) -> Result<(), Fail> {
 
 const NO_FILE: &str = "h nofile\ndone 1\n";
 
-/// What is put to such an image that opens, what is read of its file then, and how many writes and syncs the opening takes:
-/// nothing, which is replayed; a second slot, which wins; an empty list; closed gates, the second with a list that is none;
-/// and a second gate that is open alone.
+/// What is put to such an image that opens, what is read of its file then, and how many writes and syncs the opening
+/// takes: nothing, which is replayed; a second slot, which wins; an empty list; closed gates, the second with a list
+/// that is none; and a second gate that is open alone.
 const OPENED: [(&[Piece], &str, u64); 6] = [
     (&[], "h data 2222222222222222 z\ndone 1\n", 7),
     (

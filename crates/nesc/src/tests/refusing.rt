@@ -4,8 +4,8 @@ use nesc_monitor::Status;
 use std::alloc::Global;
 use std::test::Fail;
 
-/// What is written for two texts over a disk of no blocks: the line on standard error alone, but for its first words where a
-/// text is refused.
+/// What is written for two texts over a disk of no blocks: the line on standard error alone, but for its first words
+/// where a text is refused.
 fn judge(alloc: Global, commands: &str, schedule: &str) -> Result<String, NoMemory> {
     let mut image = no_disk(alloc);
     let told = run_over(alloc, commands, schedule, &mut image)?;

@@ -1,5 +1,5 @@
-//! Lines of steps of a machine that has trees, and the order of the lines of a step. All others are seen where the program
-//! runs.
+//! Lines of steps of a machine that has trees, and the order of the lines of a step. All others are seen where the
+//! program runs.
 
 use nesc_base::FnNo;
 use nesc_fakes::MemSink;

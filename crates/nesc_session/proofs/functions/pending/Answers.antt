@@ -16,7 +16,7 @@ loop-index-preserved c =
     let at = c.index-requests-index.is in
     let within = c.loop-index-test.true in
     let same = sym (ap waits c.requests.view_is) ∙ sym c.is_some.ensures in
-    let clear = clear_sound c.requests.inside.queue c.requests.inside.done c.requests.inside.waiting c.requests.inside.next c.requests.invariant in
+    let clear = clear_sound c.requests.inside.queue c.requests.inside.waiting c.requests.invariant in
     record {
       bits = elim c.if-is_some.branch [
         | then-is_some w ↦ w.bits-is ∙ number_of-more_true waits all c.loop-index.index item within at 32 c.loop-index.bits (omega (arith, within, c.requires)) c.loop-index.invariant.bits (same ∙ w.if-is_some.true)

@@ -18,7 +18,7 @@ loop-index-preserved c =
     record {
       bits = elim c.if-not-is_empty.branch [
         | then-not-is_empty w ↦
-            let some = some_queued item.queue (c.is_empty.ensures.some w.if-not-is_empty.true) in
+            let some = some_queued item.queue.requests (c.is_empty.ensures.some w.if-not-is_empty.true) in
             w.bits-is ∙ number_of-more_true is_queued all c.loop-index.index item within at 16 c.loop-index.bits (omega (arith, within, c.requires)) c.loop-index.invariant.bits (ap not some)
         | else-not-is_empty w ↦
             let none = c.is_empty.ensures.none w.if-not-is_empty.false in

@@ -10,7 +10,7 @@ use Rattle.nesc_session.proofs.Items.{numbered_item}
 use Rattle.nesc_session.proofs.Moving.{keeps_over}
 use Rattle.nesc_session.proofs.NextFunction.{next_ready_in}
 use Rattle.nesc_session.proofs.SessionFunctions.{becomes_in}
-use Rattle.nesc_session.proofs.StillSession.{session_serves}
+use Rattle.nesc_session.proofs.StillSession.{session_serves, still_holds}
 use Rattle.nesc_session.proofs.session.Session.flush.Goals as goal
 
 pub returns-clause-rests : goal.returns-clause-rests
@@ -26,7 +26,7 @@ returns-clause-rests g c =
     let few = rests.sound.few c.args.f.0 requests at in
     record {
       sound = session_serves middle rests.sound middle.files refl refl c.args.index c.args.f.0 c.requires.index within ready.1.0 ready.1.1 c.end_flush.new.self
-          (omega (arith, few, c.end_flush.ensures.few)) c.args.f.0 (omega (arith, c.requires.index, within, rests.sound.functions)) _ refl refl refl refl refl;
+          (still_holds _ requests.queue c.end_flush.new.self.queue few c.end_flush.ensures.depth c.end_flush.ensures.few) c.args.f.0 (omega (arith, c.requires.index, within, rests.sound.functions)) _ refl refl refl refl refl;
       rests = rests.rests;
       opens = rests.opens;
     }

@@ -1,4 +1,4 @@
-use Rattle.std.proofs.Common.{◌||◌, [], Some, refl, sym, subst, ◌∙◌, arith}
+use Rattle.std.proofs.Common.{◌||◌, [], Some, refl, sym, subst, ◌∙◌}
 use Rattle.std.proofs.lemmas.Bool.{false≢true}
 use Rattle.nesc_base.specs.declared.geometry.Geometry.{Geometry}
 use Rattle.nesc_requests.specs.declared.event.Event.TheVariants.{Handle}
@@ -15,7 +15,7 @@ use Rattle.nesc_session.proofs.Moving.{moves_over}
 use Rattle.nesc_session.proofs.OffFunctions.{finds_off, handles_off}
 use Rattle.nesc_session.proofs.Carried.{carries_none}
 use Rattle.nesc_session.proofs.SessionFunctions.{becomes_in, function_off, function_on}
-use Rattle.nesc_session.proofs.StillSession.{session_serves}
+use Rattle.nesc_session.proofs.StillSession.{session_serves, still_holds}
 use Rattle.nesc_session.proofs.session.Session.handle.Goals as goal
 
 pub returns-in_default-clause-does : goal.returns-in_default-clause-does
@@ -46,7 +46,7 @@ returns-clause-session c =
     let at = numbered_item session.requests.items c.args.f.0 c.in-Some.index c.index_mut.result.now found.1 found.0 c.index_mut.ensures.value in
     let few = c.requires.session.few c.args.f.0 c.index_mut.result.now at in
     session_serves session c.requires.session c.handle.new.files c.handle.ensures.division c.handle.ensures.table c.in-Some.index c.args.f.0 found.1 found.0 c.in-Some.file found.2 c.handle.new.self
-    (omega (arith, c.handle.ensures.few, few)) session.last c.requires.session.last _ refl refl refl refl refl
+    (still_holds _ c.index_mut.result.now.queue c.handle.new.self.queue few c.handle.ensures.depth c.handle.ensures.few) session.last c.requires.session.last _ refl refl refl refl refl
 
 pub returns-clause-does : goal.returns-clause-does
 returns-clause-does c kept state placed stands =

@@ -10,7 +10,7 @@ returns-in-Some c kept state placed stands =
     let session = c.args.self.now in
     let found = c.in-Some.ensures.some in
     let at = numbered_item session.requests.items c.args.f.0 c.in-Some.index c.index.result.now found.1 found.0 c.index.ensures in
-    c.len.ensures.len ∙ ap (λ (requests : Requests). length requests.queue) c.behind-self.view_is ∙ ap length (sym (queue_in session c.requires.session c.args.f.0 c.index.result.now at))
+    c.len.ensures.count ∙ ap (λ (requests : Requests). length requests.queue.requests) c.behind-self.view_is ∙ ap length (sym (queue_in session c.requires.session c.args.f.0 c.index.result.now at))
     ∙ ap (λ (functions : List Function). length (queue_of (function_at functions c.args.f.0))) (sym stands.functions)
 
 pub returns-in-None : goal.returns-in-None

@@ -29,7 +29,7 @@ returns-clause-answers c set places knows =
     let shown = λ (waiting : Option Miss) (is : c.behind-self.inside.waiting ≡ waiting).
     ap (λ (o : Option Miss). registers (file_at set c.in-Some.file.0).length o (pending (functions_in session))) (sym is ∙ seen) in
     record {
-      attached = record { file = c.in-Some.file.0; queue = requests.queue; done = requests.done; waiting = requests.waiting };
+      attached = record { file = c.in-Some.file.0; queue = requests.queue.requests; done = requests.queue.done; waiting = requests.waiting };
       on = attached_on session c.requires.session c.args.f.0 requests at c.in-Some.file found.2;
       shown = elim c.match-index.branch [
         | in-None w ↦

@@ -74,9 +74,9 @@ loop-requests-preserved g c =
     let new : Requests = c.clear-in-loop-requests.new.self in
     let spare : Spare = c.clear-in-loop-requests.new.spare in
     let is : item ≡ slice_index_or items c.loop-requests.requests-index item = ap (slice_index_or items c.loop-requests.requests-index) c.requests-item.is in
-    let more : spare.count ≡ queue_buffers item.queue + c.loop-requests.spare.count = c.clear-in-loop-requests.ensures.spare in
-    let none : queue_buffers new.queue ≡ 0 = ap (λ (requests : Requests). queue_buffers requests.queue) c.clear-in-loop-requests.ensures.cleared in
-    let fewer = buffers_with items c.loop-requests.requests-index item new 0 (queue_buffers item.queue) (omega arith) is (omega (arith, none)) in
+    let more : spare.count ≡ queue_buffers item.queue.requests + c.loop-requests.spare.count = c.clear-in-loop-requests.ensures.spare in
+    let none : queue_buffers new.queue.requests ≡ 0 = ap (λ (requests : Requests). queue_buffers requests.queue.requests) c.clear-in-loop-requests.ensures.cleared in
+    let fewer = buffers_with items c.loop-requests.requests-index item new 0 (queue_buffers item.queue.requests) (omega arith) is (omega (arith, none)) in
     record {
       cleared = one_cleared _ items c.loop-requests.requests-index item new c.loop-requests.invariant.cleared (omega arith) is c.clear-in-loop-requests.ensures.cleared;
       buffers = let then = c.loop-requests.invariant.buffers in omega (arith, fewer, more, then);

@@ -18,7 +18,7 @@ use Rattle.nesc_session.proofs.NextFunction.{flushes_first, keeps_flush, keeps_n
 use Rattle.nesc_session.proofs.Quiet.{quiet_where_kept}
 use Rattle.nesc_session.proofs.SessionFunctions.{becomes_in}
 use Rattle.nesc_session.proofs.StillRests.{does_read, does_unasked, rests_read}
-use Rattle.nesc_session.proofs.StillSession.{session_serves}
+use Rattle.nesc_session.proofs.StillSession.{session_serves, still_holds}
 use Rattle.nesc_session.proofs.session.Session.tick.Goals as goal
 
 -- No function is next
@@ -122,7 +122,7 @@ returns-clause-rests g c =
     let few = sound.few (c.in-Some.index + 1) requests next.1 in
     rests_read session _ _ _ c.serve.ensures.goes c.serve.ensures.unchanged c.serve.ensures.goes_on.same_geometry
     (session_serves session sound session.files refl refl c.in-Some.index (c.in-Some.index + 1) refl within c.in-Some-file.file (sym c.in-Some-file.ensures.file) c.serve.new.self
-    (omega (arith, few, c.serve.ensures.few)) (c.in-Some.index + 1) (omega (arith, within, sound.functions)) _ refl refl refl refl refl)
+    (still_holds _ requests.queue c.serve.new.self.queue few c.serve.ensures.depth c.serve.ensures.few) (c.in-Some.index + 1) (omega (arith, within, sound.functions)) _ refl refl refl refl refl)
     c.serve.ensures.rests c.requires.rests
 
 pub returns-clause-does : goal.returns-clause-does

@@ -1,0 +1,4 @@
+pub mod Addresses
+pub mod Found
+pub mod Nodes
+pub mod Walks

@@ -1,0 +1,4 @@
+pub mod Changed
+pub mod Laws
+pub mod Pools
+pub mod Shown
