@@ -1,0 +1,2 @@
+pub mod Groves
+pub mod Laws

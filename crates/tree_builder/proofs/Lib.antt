@@ -1,0 +1,5 @@
+pub mod Beginning
+pub mod Filling
+pub mod Going
+pub mod Growing
+pub mod Making

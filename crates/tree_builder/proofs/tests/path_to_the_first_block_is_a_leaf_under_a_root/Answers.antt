@@ -1,0 +1,13 @@
+use Rattle.std.proofs.Common.{arith}
+use Rattle.tree_shape.proofs.Spaced.{spaced}
+use Rattle.tree_shape.proofs.Spans.{is_top}
+use Rattle.tree_builder.proofs.Beginning.{may_begin, nothing, shows_nothing}
+use Rattle.tree_builder.proofs.tests.path_to_the_first_block_is_a_leaf_under_a_root.Goals as goal
+
+pub build_path-built-requires-clause-may : goal.build_path-built-requires-clause-may
+build_path-built-requires-clause-may g c =
+    may_begin c.in_ok-pool.pool c.in_ok-memory.memory (spaced 11) 0 1 8 288 (is_top 11 0 (omega arith) (omega arith)) c.in_ok-pool.ensures c.in_ok-memory.ensures (omega arith) (omega arith)
+
+pub nodes_needed-requires-clause-shows : goal.nodes_needed-requires-clause-shows
+nodes_needed-requires-clause-shows g c =
+    (nothing, shows_nothing c.in_ok-memory.memory.words (spaced 11) 1 (is_top 11 0 (omega arith) (omega arith)))

@@ -1,0 +1,9 @@
+use Rattle.std.proofs.Common.{subst, arith}
+use Rattle.nesc_base.specs.Runs.{AreRuns}
+use Rattle.tree_tests.proofs.Plots.{bare_is_planted}
+use Rattle.tree_tests.proofs.planting.Planting.new.Goals as goal
+
+pub invariant_of-result : goal.invariant_of-result
+invariant_of-result c =
+    bare_is_planted c.args.runs _ _ c.args.nodes _ (subst AreRuns c.drop.view_is c.drop.invariant) c.in_ok-new.ensures c.in_ok-new-2.ensures
+    (omega arith)

@@ -1,0 +1,3 @@
+pub mod Forests
+pub mod Planted
+pub mod Putting
