@@ -2,7 +2,7 @@
 use Rattle.std.proofs.Common.{◌≡◌, ◌≢◌, inl, inr, ℕ, ◌+◌, ◌-◌, ◌%◌, ◌^◌, ◌<◌, ◌≤◌, List, [], ◌∷◌, ◌++◌, length, drop, refl, sym, ap, subst, ◌∙◌, append-nil, append_assoc, arith}
 use Rattle.std.specs.Prelude.{slice_index}
 use Rattle.std.proofs.lemmas.Bool.{cases_eq}
-use Rattle.std.proofs.lemmas.List.{drop_all}
+use Rattle.std.proofs.lemmas.List.{drop_all, length-set}
 use Rattle.nesc_base.specs.declared.runs.Run.{Run}
 use Rattle.nesc_requests.specs.Machine.{most_functions}
 use Rattle.host_memory.specs.Pool.{free_of}
@@ -23,6 +23,7 @@ pub record Underway (runs : ℕ → List Run) (layouts : ℕ → Layout) (f need
   pub mask_is : mask ≡ mask_of gone
   pub left : AreTrees now.pool words now.roots runs (without_trees gone layouts)
   pub as_many : length now.pool.taken ≡ length old.pool.taken
+  pub rooted : length now.roots ≡ length old.roots
   pub rest : (victims : List ℕ) (new : Grove) → Reclaims layouts needed (drop turn (turn_of f)) now victims new
       → Reclaims layouts needed (turn_of f) old (gone ++ victims) new
 
@@ -33,6 +34,7 @@ none_gone runs layouts f needed words old trees = record {
   mask_is = refl;
   left = trees;
   as_many = refl;
+  rooted = refl;
   rest = λ victims new reclaims. reclaims;
 }
 
@@ -53,6 +55,7 @@ module _ (runs : ℕ → List Run) (layouts : ℕ → Layout) (f needed turn mas
     mask_is = (let is = under.mask_is in omega arith);
     left = under.left;
     as_many = under.as_many;
+    rooted = under.rooted;
     rest = λ victims new reclaims. before victims new (inr (inl (few, zero, reclaims)));
   }
 
@@ -77,6 +80,7 @@ module _ (runs : ℕ → List Run) (layouts : ℕ → Layout) (f needed turn mas
         left = subst (λ (those : ℕ → Layout). AreTrees next.pool words next.roots runs those) (sym (one_more_gone layouts under.gone g))
             (trees_left words runs current g now next function under.left gives);
         as_many = gives.nodes.as_many ∙ under.as_many;
+        rooted = ap (λ (roots : List ℕ). length roots) drops.root ∙ length-set now.roots (g - 1) 0 ∙ under.rooted;
         rest = λ victims new reclaims.
             subst (λ (all : List ℕ). Reclaims layouts needed (turn_of f) old all new) (sym (append_assoc under.gone (g ∷ []) victims))
             (before (g ∷ victims) new (inr (inr (few, (next, victims, own, refl, reclaims)))));
@@ -163,6 +167,8 @@ module _ (runs : ℕ → List Run) (layouts : ℕ → Layout) (f needed turn mas
     mask_is = under.mask_is;
     enough = enough;
     left = under.left;
+    as_many = under.as_many;
+    rooted = under.rooted;
   }
 
   -- enough nodes are free while it is the turn of function g

@@ -84,7 +84,8 @@ pub record MayReclaim (pool : Pool) (memory : KnownMemory) (roots : Roots) (f ne
   pub function : IsFunction f
   pub within : needed ≤ length pool.taken
 
--- The functions of this mask gave up their trees, enough nodes are free, and the words still show all other trees.
+-- The functions of this mask gave up their trees, enough nodes are free, and the words still show all other trees. The
+-- pool has as many nodes as before, and there are as many roots.
 pub record ReclaimsFor (runs : ℕ → List Run) (layouts : ℕ → Layout) (f needed mask : ℕ) (words : List ℕ)
     (old new : Grove) : Type 0 where
   pub victims : List ℕ
@@ -92,6 +93,8 @@ pub record ReclaimsFor (runs : ℕ → List Run) (layouts : ℕ → Layout) (f n
   pub mask_is : mask ≡ mask_of victims
   pub enough : needed ≤ free_of new.pool
   pub left : AreTrees new.pool words new.roots runs (without_trees victims layouts)
+  pub as_many : length new.pool.taken ≡ length old.pool.taken
+  pub rooted : length new.roots ≡ length old.roots
 
 -- whatever trees there were
 abbrev pub ReclaimsTrees : ℕ → ℕ → ℕ → List ℕ → Grove → Grove → Type 0

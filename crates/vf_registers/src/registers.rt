@@ -47,7 +47,7 @@ impl Model for Registers {
 }
 
 impl Registers {
-    /// The registers of so many functions, 1 to 16, all of them 0. An `Err` says that there is no memory for them. No
+    /// The registers of so many functions, up to 16, all of them 0. An `Err` says that there is no memory for them. No
     /// other call takes any.
     pub fn new(alloc: Global, functions: u8) -> Result<Registers, NoMemory>
         requires { functions ≤ most_functions }
