@@ -9,7 +9,8 @@ use Rattle.host_memory.proofs.PoolLaws.{gives_back, not_both}
 use Rattle.tree_words.specs.Changed.{Adds, TakesAway}
 use Rattle.tree_words.specs.Shown.{IsOfTree, Layout, Shows, ShowsAt, Stands}
 use Rattle.tree_words.proofs.Showing.{stands_on_root}
-use Rattle.tree_pruner.proofs.Groves.{shows_none, trees_left}
+use Rattle.tree_words.proofs.NoNodes.{shows_none}
+use Rattle.tree_pruner.proofs.Groves.{trees_left}
 use Rattle.tree_pruner.specs.Roots.{Roots, root_of}
 use Rattle.grove_laws.specs.Groves.{with_for}
 use Rattle.grove_laws.specs.Laws.{AreAllTrees, KeptByBuilding, KeptByDropping, KeptByPruning, KeptWithoutTree}

@@ -2,3 +2,4 @@ pub mod Changes
 pub mod Counts
 pub mod Kept
 pub mod Lists
+pub mod NoTrees

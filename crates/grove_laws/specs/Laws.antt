@@ -4,15 +4,15 @@ use Rattle.nesc_base.specs.Memory.{KnownMemory}
 use Rattle.nesc_base.specs.Runs.{AreRuns}
 use Rattle.nesc_base.specs.declared.runs.Run.{Run}
 use Rattle.nesc_requests.specs.Machine.{most_functions}
-use Rattle.host_memory.specs.Pool.{Pool}
+use Rattle.host_memory.specs.Pool.{Pool, all_free}
 use Rattle.tree_words.specs.Pools.{AreTaken}
-use Rattle.tree_words.specs.Shown.{Layout, Shows}
+use Rattle.tree_words.specs.Shown.{Layout, Shows, no_nodes}
 use Rattle.tree_builder.specs.Building.{Builds}
 use Rattle.tree_builder.specs.declared.building.Built.{Built}
 use Rattle.tree_pruner.specs.Dropping.{GivesNodesBack}
 use Rattle.tree_pruner.specs.Pruning.{TakesLeaf}
 use Rattle.tree_pruner.specs.Reclaiming.{AreTrees, GivesUp, Grove, without_tree}
-use Rattle.tree_pruner.specs.Roots.{IsFunction, Roots, root_of}
+use Rattle.tree_pruner.specs.Roots.{IsFunction, Roots, no_roots, root_of}
 use Rattle.tree_pruner.specs.declared.pruning.Pruned.{Pruned}
 use Rattle.grove_laws.specs.Groves.{IsListOf, with_for}
 
@@ -22,6 +22,13 @@ pub record AreAllTrees (f : ℕ) (pool : Pool) (words : List ℕ) (roots : Roots
   pub function : IsFunction f
   pub rooted : length roots ≡ most_functions
   pub trees : AreTrees pool words roots runs layouts
+
+-- at first no function has a tree
+abbrev pub HasNoTrees : ℕ → Type 0
+HasNoTrees f =
+    (nodes : ℕ) (words : List ℕ) (runs : ℕ → List Run) → IsFunction f
+    → ((g : ℕ) → IsFunction g → AreRuns (runs g))
+    → AreAllTrees f (all_free nodes) words no_roots runs (λ _. no_nodes)
 
 -- they are so again when a path was built in the tree of f
 abbrev pub KeptByBuilding : ℕ → Type 0

@@ -1,8 +1,13 @@
 ghost use Rattle.std.specs.Prelude.{ℕ, List};
 ghost use Rattle.nesc_base.specs.declared.runs.Run.{Run};
 ghost use Rattle.tree_words.specs.Shown.{Layout};
-ghost use Rattle.grove_laws.specs.Laws.{CountsNodes, HasList};
+ghost use Rattle.grove_laws.specs.Laws.{CountsNodes, HasList, HasNoTrees};
 ghost use Rattle.grove_laws.specs.Laws.{KeptByBuilding, KeptByDropping, KeptByPruning, KeptWithoutTree};
+
+/// Where all nodes are free and no function has a root, no tree stands, and each file may have any runs.
+pub fn no_trees_stand_at_first()
+    ensures { (f : ℕ) → HasNoTrees f }
+{}
 
 /// A path that is built in the tree of one function leaves the trees of all: no two share a node, and no other node is
 /// taken.

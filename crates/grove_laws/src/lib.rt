@@ -4,6 +4,6 @@
 mod laws;
 
 pub use laws::{
-    nodes_given_back_are_counted, runs_of_no_tree_may_change, trees_stay_when_a_leaf_goes,
-    trees_stay_when_one_goes, trees_stay_when_one_grows,
+    no_trees_stand_at_first, nodes_given_back_are_counted, runs_of_no_tree_may_change,
+    trees_stay_when_a_leaf_goes, trees_stay_when_one_goes, trees_stay_when_one_grows,
 };

@@ -1,13 +1,12 @@
 -- The first of all functions in turn that passes a test.
 use Rattle.std.proofs.Common.{◌≡◌, ℕ, zero, suc, ◌+◌, ◌-◌, ◌<◌, ◌≤◌, ◌≢◌, inl, inr, Bool, true, false, cond, Option, Some, None, List, length, MatchOption, option_map, bit_and, ◌^◌, ⊎_elim, arith, ap, refl, sym, ◌∙◌}
-use Rattle.std.specs.Prelude.{IfSome}
 use Rattle.std.specs.List.{find, range_with_len}
 use Rattle.std.specs.Option.{option_or}
 use Rattle.std.proofs.lemmas.Bool.{cases_lt, cases_eq, both_ways}
 use Rattle.std.proofs.lemmas.List.Folds.{find-append}
 use Rattle.nesc_base.specs.declared.numbers.FnNo.{FnNo}
 use Rattle.plain_machine.specs.Functions.{Function, in_turn, is_runnable, next_runnable}
-use Rattle.multiplexer.specs.Turns.{AreRunnable, IsFirstAfter, IsNoneAfter, is_set, next_set}
+use Rattle.multiplexer.specs.Turns.{AreRunnable, IsFirstAfter, IsNoneAfter, IsNoneSet, IsSetAmong, is_set, next_set}
 use Rattle.multiplexer.proofs.Bits.{cut_inside, cut_past}
 
 module _ (p : ℕ → Bool) where
@@ -89,8 +88,13 @@ module _ (bits last count : ℕ) (within : last ≤ count) where
       sym (turn_after (is_set bits) last count f is.after upto (as_set f (omega (arith, is.after)) upto true is.set)
       (λ k above below. as_set k (omega arith) (omega arith) false (is.first k above below)))
 
-  pub among_after : (f : ℕ) → IsFirstAfter last among f → (1 ≤ f) × (f ≤ count)
-  among_after f is = (omega (arith, is.after), inside f is.set)
+  set_among : (f : ℕ) → 1 ≤ f → is_set among f ≡ true → IsSetAmong bits count f
+  set_among f some set =
+      let upto = inside f set in
+      record { first = some; last = upto; set = as_set f some upto true set }
+
+  pub among_after : (f : ℕ) → IsFirstAfter last among f → IsSetAmong bits count f
+  among_after f is = set_among f (omega (arith, is.after)) is.set
 
   -- or, where there is none, the first of all
   module _ (none : IsNoneAfter last among) where
@@ -104,6 +108,7 @@ module _ (bits last count : ℕ) (within : last ≤ count) where
         (as_set f.0 (omega (arith, is.after)) upto true is.set)
         (λ k some below. as_set k some (omega arith) false (is.first k (omega arith) below)))
 
-  pub among_around : (o : Option FnNo) → MatchOption o (IsNoneAfter 0 among) (λ f. IsFirstAfter 0 among f.0) → IfSome o (λ f. (1 ≤ f.0) × (f.0 ≤ count))
-  among_around None all = tt
-  among_around (Some f) is = (omega (arith, is.after), inside f.0 is.set)
+  pub among_around : (o : Option FnNo) → MatchOption o (IsNoneAfter 0 among) (λ f. IsFirstAfter 0 among f.0)
+      → MatchOption o (IsNoneSet bits count) (λ f. IsSetAmong bits count f.0)
+  among_around None all = λ f some upto. as_set f some upto false (all f (omega arith))
+  among_around (Some f) is = set_among f.0 (omega (arith, is.after)) is.set

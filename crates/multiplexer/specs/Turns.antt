@@ -16,6 +16,16 @@ next_set bits last count = find (is_set bits) (in_turn last count)
 abbrev pub AreRunnable : ℕ → List Function → Type 0
 AreRunnable bits functions = (f : ℕ) → 1 ≤ f → f ≤ length functions → is_set bits f ≡ is_runnable functions f
 
+-- there is such a function among so many, and its bit is set
+pub record IsSetAmong (bits count f : ℕ) : Type 0 where
+  pub first : 1 ≤ f
+  pub last : f ≤ count
+  pub set : is_set bits f ≡ true
+
+-- none of so many functions has its bit set
+abbrev pub IsNoneSet : ℕ → ℕ → Type 0
+IsNoneSet bits count = (f : ℕ) → 1 ≤ f → f ≤ count → is_set bits f ≡ false
+
 -- no function after one has its bit set
 abbrev pub IsNoneAfter : ℕ → ℕ → Type 0
 IsNoneAfter last bits = (f : ℕ) → last < f → is_set bits f ≡ false

@@ -1,10 +1,10 @@
 //! Whose turn it is: which of the functions that can be served the device takes next.
 #![tactic(auto)]
 
-ghost use Rattle.std.specs.Prelude.{◌≡◌, ◌<◌, ◌≤◌, ◌^◌, List, MatchOption, length, option_map, IfSome};
+ghost use Rattle.std.specs.Prelude.{◌≡◌, ◌<◌, ◌≤◌, ◌^◌, List, MatchOption, length, option_map};
 ghost use Rattle.nesc_requests.specs.Machine.{most_functions};
 ghost use Rattle.plain_machine.specs.Functions.{Function, next_runnable};
-ghost use Rattle.multiplexer.specs.Turns.{AreRunnable, IsFirstAfter, IsNoneAfter, next_set};
+ghost use Rattle.multiplexer.specs.Turns.{AreRunnable, IsFirstAfter, IsNoneAfter, IsNoneSet, IsSetAmong, next_set};
 
 use nesc_base::FnNo;
 
@@ -33,7 +33,7 @@ pub fn next(last: u8, runnable: u16, functions: u8) -> Option<FnNo>
     requires taken { last ≤ functions }
     requires few { functions ≤ most_functions }
     ensures next { option_map (λ f. f.0) result ≡ next_set runnable last functions }
-    ensures among { IfSome result (λ f. (1 ≤ f.0) × (f.0 ≤ functions)) }
+    ensures among { MatchOption result (IsNoneSet runnable functions) (λ f. IsSetAmong runnable functions f.0) }
 
     // It is the next of the machine's functions, where the bits say which of them are runnable.
     ensures runnable { (all : List Function) → length all ≡ functions → AreRunnable runnable all

@@ -42,11 +42,21 @@ pub record IsForgotten (f : ℕ) (cache : Cache) : Type 0 where
   pub nothing : (v : ℕ) → found f v (after_forget f cache).entries ≡ None
   pub others : (g v : ℕ) → g ≢ f → found g v (after_forget f cache).entries ≡ found g v cache.entries
 
+-- all runs lie in the area
+abbrev pub LieIn : Area → Cache → Type 0
+LieIn area cache = Each (λ entry. LiesIn area entry.run) cache
+
+-- all runs lie there after each use, where that of an entry which is kept does
+pub record StayIn (area : Area) (cache : Cache) : Type 0 where
+  pub look : (f v : ℕ) → LieIn area (after_look f v cache)
+  pub keep : (entry : Entry) → LiesIn area entry.run → LieIn area (after_keep entry cache)
+  pub forget : (f : ℕ) → LieIn area (after_forget f cache)
+  pub clear : LieIn area (after_clear cache)
+
 -- what is found lies where all runs lie
 abbrev pub FoundInArea : Area → Cache → Type 0
 FoundInArea area cache =
-    Each (λ entry. LiesIn area entry.run) cache
-    → (f v at : ℕ) → found_place f v cache.entries ≡ Some at → (area.from ≤ at) × (at < area.to)
+    LieIn area cache → (f v at : ℕ) → found_place f v cache.entries ≡ Some at → (area.from ≤ at) × (at < area.to)
 
 -- two entries that have one block of one function are one
 abbrev pub HasOneEach : Cache → Type 0

@@ -2,6 +2,7 @@ ghost use Rattle.std.specs.Prelude.{ℕ};
 ghost use Rattle.nesc_base.specs.declared.runs.Area.{Area};
 ghost use Rattle.translation_model.specs.Translations.{Cache, Entry};
 ghost use Rattle.translation_model.specs.Laws.{BringNone, FoundInArea, HasOneEach, IsForgotten, IsFound, LeaveCaches};
+ghost use Rattle.translation_model.specs.Laws.{LieIn, StayIn};
 
 /// What is found is an entry that has the block, and nothing is found exactly where no entry has it.
 pub fn what_has_the_block_is_found()
@@ -23,6 +24,11 @@ pub fn uses_bring_no_entry()
 /// Once a function is forgotten no block of it is found, and what is found of other functions is as before.
 pub fn others_are_found_as_before()
     ensures { (f : ℕ) (cache : Cache) → IsForgotten f cache }
+{}
+
+/// Where all runs lie in an area, they lie there after each use, if that of an entry which is kept does.
+pub fn uses_stay_in_an_area()
+    ensures { (area : Area) (cache : Cache) → LieIn area cache → StayIn area cache }
 {}
 
 /// Where all runs lie in an area, what is found lies there.

@@ -11,26 +11,10 @@ use Rattle.tree_shape.specs.Shape.{Covers, IsTop, border}
 use Rattle.tree_shape.proofs.Borders.{cover_one}
 use Rattle.tree_shape.proofs.Paths.{over_leaf}
 use Rattle.tree_shape.proofs.Spans.{same_top}
-use Rattle.tree_words.specs.Shown.{Layout, Shows}
+use Rattle.tree_words.specs.Shown.{Layout, no_nodes}
+use Rattle.tree_words.proofs.NoNodes.{shows_none}
 use Rattle.tree_builder.specs.Building.{Builds, MayBuild, Needs}
 use Rattle.tree_builder.specs.declared.building.Built.{Built}
-
-abbrev pub nothing : Layout
-nothing = λ _ _. 0
-
-pub shows_nothing : (words : List ℕ) (runs : List Run) (top : ℕ) → IsTop (length runs) top → Shows words 0 runs nothing
-shows_nothing words runs top at = record {
-  top = top;
-  root_is = refl;
-  shows = record {
-    root_level = at;
-    nodes = λ level k stands. absurd (stands refl);
-    parents = λ level k less stands. absurd (stands refl);
-    placed = λ level k stands. absurd (stands refl);
-    says = λ level k stands. absurd (stands refl);
-    apart = λ level k other j stands same. absurd (stands refl);
-  };
-}
 
 needs_few : (runs : List Run) (layout : Layout) (v top needed : ℕ) → IsTop (length runs) top → Needs runs layout v needed → needed ≤ top + 1
 needs_few runs layout v top needed at needs =
@@ -45,20 +29,20 @@ may_begin pool memory runs v top nodes words at free blank enough room =
     let taken : length pool.taken ≡ nodes = ap (λ (p : Pool). length p.taken) free ∙ length-replicate nodes false in
     let count : free_of pool ≡ nodes = ap free_of free ∙ free_of_all nodes in
     record {
-      layout = nothing;
-      shows = shows_nothing memory.words runs top at;
+      layout = no_nodes;
+      shows = shows_none memory.words 0 runs no_nodes refl (λ level k. refl);
       taken = λ level k stands. absurd (stands refl);
       uncovered = λ covered. covered.2 refl;
-      enough = λ needed needs. omega (arith, count, needs_few runs nothing v top needed at needs);
+      enough = λ needed needs. omega (arith, count, needs_few runs no_nodes v top needed at needs);
       room = omega (arith, size, taken);
     }
 
 -- at a block behind the leaf that was built
 pub may_go_on : (runs : List Run) (v w top leaf : ℕ) (old_pool new_pool : Pool) (old new : KnownMemory) (built : Built) → AreRuns runs → IsTop (length runs) top
-    → MayBuild old_pool old 0 runs v → Builds runs v nothing old_pool new_pool old new built → Covers runs 0 leaf v → border runs 0 (leaf + 1) ≤ w
+    → MayBuild old_pool old 0 runs v → Builds runs v no_nodes old_pool new_pool old new built → Covers runs 0 leaf v → border runs 0 (leaf + 1) ≤ w
     → top + 1 + (top + 1) ≤ free_of old_pool → MayBuild new_pool new built.root runs w
 may_go_on runs v w top leaf old_pool new_pool old new built are at may builds covers behind enough =
-    let few = needs_few runs nothing v top built.nodes at builds.needs in
+    let few = needs_few runs no_nodes v top built.nodes at builds.needs in
     record {
       layout = builds.new;
       shows = builds.shows;

@@ -3,3 +3,4 @@ pub mod Filling
 pub mod Going
 pub mod Growing
 pub mod Making
+pub mod Needing

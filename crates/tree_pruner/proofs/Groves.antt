@@ -7,11 +7,11 @@ use Rattle.std.proofs.lemmas.Option.{slice_get-get_or}
 use Rattle.nesc_base.specs.declared.runs.Run.{Run}
 use Rattle.host_memory.specs.Pool.{IsTaken, Pool, address_of, free_of}
 use Rattle.host_memory.proofs.PoolLaws.{free_of_all}
-use Rattle.tree_shape.proofs.Spans.{one_top}
-use Rattle.tree_words.specs.Shown.{IsOfTree, Layout, Shows}
+use Rattle.tree_words.specs.Shown.{IsOfTree, Layout, Shows, no_nodes}
+use Rattle.tree_words.proofs.NoNodes.{shows_none}
 use Rattle.tree_words.proofs.Showing.{stands_on_root}
 use Rattle.tree_pruner.specs.Dropping.{HasTree}
-use Rattle.tree_pruner.specs.Reclaiming.{AreTrees, DropsRoot, GivesUp, Grove, no_nodes, without_tree, without_trees}
+use Rattle.tree_pruner.specs.Reclaiming.{AreTrees, DropsRoot, GivesUp, Grove, without_tree, without_trees}
 use Rattle.tree_pruner.specs.Roots.{IsFunction, Roots, root_of}
 
 -- Roots
@@ -55,24 +55,6 @@ one_more_gone layouts [] g = refl
 one_more_gone layouts (first ∷ others) g = one_more_gone (without_tree first layouts) others g
 
 -- What is shown
-
--- where nothing stands, the tree of any runs is shown
-pub shows_none : (words : List ℕ) (root : ℕ) (runs : List Run) (layout : Layout) → root ≡ 0
-    → ((level k : ℕ) → layout level k ≡ 0) → Shows words root runs layout
-shows_none words root runs layout zero none =
-    let top = (one_top (length runs)).some in
-    record {
-      top = top.0;
-      root_is = zero ∙ sym (none top.0 0);
-      shows = record {
-        root_level = top.1;
-        nodes = λ level k stands. absurd (stands (none level k));
-        parents = λ level k under stands. absurd (stands (none level k));
-        placed = λ level k stands. absurd (stands (none level k));
-        says = λ level k stands. absurd (stands (none level k));
-        apart = λ level k other j stands same. absurd (stands (none level k));
-      };
-    }
 
 module _ (words : List ℕ) (runs : ℕ → List Run) (layouts : ℕ → Layout) (g : ℕ) (old new : Grove) (function : IsFunction g)
     (trees : AreTrees old.pool words old.roots runs layouts) (gives : GivesUp layouts g old new) where

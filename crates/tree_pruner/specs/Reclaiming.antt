@@ -7,7 +7,7 @@ use Rattle.nesc_base.specs.declared.runs.Run.{Run}
 use Rattle.nesc_requests.specs.Machine.{most_functions}
 use Rattle.plain_machine.specs.Functions.{in_turn}
 use Rattle.host_memory.specs.Pool.{IsTaken, Pool, free_of}
-use Rattle.tree_words.specs.Shown.{IsOfTree, Layout, Shows}
+use Rattle.tree_words.specs.Shown.{IsOfTree, Layout, Shows, no_nodes}
 use Rattle.tree_pruner.specs.Dropping.{DropsTree, GivesNodesBack}
 use Rattle.tree_pruner.specs.Roots.{IsFunction, Roots, root_of}
 
@@ -62,10 +62,6 @@ turn_of f = in_turn f most_functions
 abbrev pub mask_of : List ℕ → ℕ
 mask_of [] = 0
 mask_of (g ∷ others) = 2 ^ (g - 1) + mask_of others
-
--- no node stands
-abbrev pub no_nodes : Layout
-no_nodes level k = 0
 
 -- the trees of all functions, but that function g has none any more
 abbrev pub without_tree : ℕ → (ℕ → Layout) → ℕ → Layout

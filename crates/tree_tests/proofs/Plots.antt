@@ -1,6 +1,6 @@
 -- What stands in a planting before a call and after it.
 use Rattle.std.proofs.Common.{◌≡◌, ◌≢◌, ◌⊎◌, inl, inr, ℕ, ◌+◌, ◌*◌, ◌<◌, ◌≤◌, List, None, Some, false, length, refl, sym, ap, subst, ◌∙◌, arith}
-use Rattle.std.proofs.lemmas.Bool.{cases_eq, cases_lt}
+use Rattle.std.proofs.lemmas.Bool.{cases_eq}
 use Rattle.std.proofs.lemmas.List.{length-replicate}
 use Rattle.nesc_base.specs.Files.{longest_file}
 use Rattle.nesc_base.specs.Memory.{KnownMemory, node_size}
@@ -9,81 +9,33 @@ use Rattle.nesc_base.specs.declared.runs.Run.{Run}
 use Rattle.host_memory.specs.Pool.{GivesBack, IsTaken, Pool, all_free, free_of}
 use Rattle.host_memory.specs.Words.{WordMemory, known_of, zeros}
 use Rattle.host_memory.proofs.PoolLaws.{gives_back}
-use Rattle.tree_shape.specs.Shape.{IsLeafOver, IsTop}
-use Rattle.tree_shape.proofs.Borders.{one_node_over}
-use Rattle.tree_shape.proofs.Paths.{over_leaf}
-use Rattle.tree_shape.proofs.Spans.{one_top}
-use Rattle.tree_words.specs.Changed.{Lacks, TakesAway}
+use Rattle.tree_words.specs.Changed.{TakesAway}
 use Rattle.tree_words.specs.Pools.{AreTaken}
-use Rattle.tree_words.specs.Shown.{IsCovered, Layout, Shows, ShowsAt, Stands}
-use Rattle.tree_words.proofs.Paths.{has_one_lack}
-use Rattle.tree_builder.specs.Building.{BuildsPath, MayBuild, Needs}
+use Rattle.tree_words.specs.Shown.{Layout, ShowsAt, Stands, no_nodes}
+use Rattle.tree_words.proofs.NoNodes.{shows_none}
+use Rattle.tree_builder.proofs.Needing.{covered_needs_none, needs_one}
+use Rattle.tree_builder.specs.Building.{BuildsPath, MayBuild}
 use Rattle.tree_builder.specs.declared.building.Built.{Built}
 use Rattle.tree_pruner.specs.Dropping.{DropsTree}
 use Rattle.tree_pruner.specs.Pruning.{PrunesLeaf}
 use Rattle.tree_pruner.specs.declared.pruning.Pruned.{Pruned}
 use Rattle.tree_tests.specs.Planted.{IsPlanted, NeedsHere, Plot}
 
--- Nothing stands
-
-abbrev pub nothing : Layout
-nothing level k = 0
-
-pub shows_nothing : (words : List ℕ) (runs : List Run) (top : ℕ) → IsTop (length runs) top → Shows words 0 runs nothing
-shows_nothing words runs top is = record {
-  top = top;
-  root_is = refl;
-  shows = record {
-    root_level = is;
-    nodes = λ level k stands. absurd (stands refl);
-    parents = λ level k under stands. absurd (stands refl);
-    placed = λ level k stands. absurd (stands refl);
-    says = λ level k stands. absurd (stands refl);
-    apart = λ level k other j stands same. absurd (stands refl);
-  };
-}
-
 pub bare_is_planted : (runs : List Run) (pool : Pool) (memory : WordMemory) (nodes words : ℕ) → AreRuns runs
     → pool ≡ all_free nodes → memory ≡ zeros words → words ≡ node_size * (nodes + 1)
     → IsPlanted (record { runs = runs; pool = pool; memory = memory; root = 0 })
 bare_is_planted runs pool memory nodes words are free clear enough =
-    let top = (one_top (length runs)).some in
     let marks : length pool.taken ≡ nodes = ap (λ (p : Pool). length p.taken) free ∙ length-replicate nodes false in
     let long : length memory.words ≡ words = ap (λ (m : WordMemory). length m.words) clear ∙ length-replicate words 0 in
     record {
       are_runs = are;
-      layout = nothing;
-      shows = shows_nothing memory.words runs top.0 top.1;
+      layout = no_nodes;
+      shows = shows_none memory.words 0 runs no_nodes refl (λ level k. refl);
       taken = λ level k stands. absurd (stands refl);
       room = omega arith;
     }
 
 -- What is needed
-
-same_leaf : (runs : List Run) (v one other : ℕ) → AreRuns runs → v < longest_file → IsLeafOver runs v one → IsLeafOver runs v other
-    → one ≡ other
-same_leaf runs v one other are filed over also = (one_node_over runs 0 v are filed).one one other over.covers also.covers
-
-covered_needs_none : (runs : List Run) (layout : Layout) (v needed : ℕ) → AreRuns runs → v < longest_file
-    → IsCovered runs layout v → Needs runs layout v needed → needed ≡ 0
-covered_needs_none runs layout v needed are filed covered needs = elim (cases_lt 0 needed) [
-  | inl some ↦
-      let same : covered.0 ≡ needs.leaf = same_leaf runs v covered.0 needs.leaf are filed covered.1 needs.over in
-      absurd (covered.2 (ap (layout 0) (same ∙ sym (over_leaf needs.leaf)) ∙ needs.lacks.lack 0 some))
-  | inr none ↦ omega arith
-]
-
-needs_one : (words : List ℕ) (root : ℕ) (runs : List Run) (layout : Layout) (v one other : ℕ) → AreRuns runs → v < longest_file
-    → Shows words root runs layout → Needs runs layout v one → Needs runs layout v other → one ≡ other
-needs_one words root runs layout v one other are filed shows needs also =
-    let tops = (one_top (length runs)).one in
-    let leaf : also.leaf ≡ needs.leaf = same_leaf runs v also.leaf needs.leaf are filed also.over needs.over in
-    let there : Lacks shows.top needs.leaf layout one =
-    subst (λ (t : ℕ). Lacks t needs.leaf layout one) (tops needs.top shows.top needs.root_level shows.shows.root_level) needs.lacks in
-    let here : Lacks shows.top also.leaf layout other =
-    subst (λ (t : ℕ). Lacks t also.leaf layout other) (tops also.top shows.top also.root_level shows.shows.root_level) also.lacks in
-    (has_one_lack words runs shows.top needs.leaf layout shows.shows).one one other there
-    (subst (λ (l : ℕ). Lacks shows.top l layout other) leaf here)
 
 pub may_build : (plot : Plot) (v needed : ℕ) → IsPlanted plot → v < longest_file → NeedsHere plot v needed → needed ≢ 0
     → needed ≤ free_of plot.pool → MayBuild plot.pool (known_of plot.memory) plot.root plot.runs v
@@ -187,8 +139,8 @@ dropped_is_planted old pool memory count planted drops same =
     let was : node_size * (length old.pool.taken + 1) ≤ length old.memory.words = planted.room in
     record {
       are_runs = planted.are_runs;
-      layout = nothing;
-      shows = shows_nothing memory.words old.runs planted.shows.top planted.shows.shows.root_level;
+      layout = no_nodes;
+      shows = shows_none memory.words 0 old.runs no_nodes refl (λ level k. refl);
       taken = λ level k stands. absurd (stands refl);
       room = omega arith;
     }

@@ -108,8 +108,8 @@ pub record AreFetched (fetches : List Fetch) (old new : KnownMemory) : Type 0 wh
   pub never_falls : old.bent ≤ new.bent
   pub gave : ¬ Rose old.bent new.bent → fetches ≡ map (standing old.words) (addresses_of fetches)
 
--- A walk that may fetch so many nodes ended so: as words at the addresses that it fetched say. They are those that stand
--- there, unless the count of bent fetches rose.
+-- A walk that may fetch so many nodes ended so: as words at the addresses that it fetched say. They are those that
+-- stand there, unless the count of bent fetches rose.
 pub record Walks (left address v : ℕ) (area : Area) (end : WalkEnd) (old new : KnownMemory) : Type 0 where
   pub fetches : List Fetch
   pub made : AreFetched fetches old new

@@ -1,3 +1,4 @@
+pub mod NoNodes
 pub mod NodeWords
 pub mod Paths
 pub mod Places

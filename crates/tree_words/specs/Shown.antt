@@ -12,6 +12,10 @@ use Rattle.tree_shape.specs.Shape.{HasNode, IsLeafOver, IsTop, border, children,
 abbrev pub Layout : Type 0
 Layout = ℕ → ℕ → ℕ
 
+-- no node stands
+abbrev pub no_nodes : Layout
+no_nodes level k = 0
+
 abbrev pub Stands : Layout → ℕ → ℕ → Type 0
 Stands layout level k = layout level k ≢ 0
 

@@ -1,4 +1,5 @@
-ghost use Rattle.std.specs.Prelude.{◌≡◌, ◌≢◌, ◌≤◌, ◌<◌, ◌+◌, ℕ, false, IfOk, MatchOption, length, if◌then◌else◌, None};
+ghost use Rattle.std.specs.Prelude.{◌≡◌, ◌≢◌, ◌≤◌, ◌<◌, ◌+◌, ◌^◌, ℕ, false, if◌then◌else◌};
+ghost use Rattle.std.specs.Prelude.{IfOk, MatchOption, None, length};
 ghost use Rattle.std.specs.Int.{bit_at};
 ghost use Rattle.nesc_requests.specs.Machine.{most_functions};
 ghost use Rattle.nesc_requests.specs.Script.{numbered};
@@ -102,6 +103,9 @@ impl Registers {
 
         // The bits of Pending are those of the functions that wait.
         ensures agrees { number ≡ PENDING → IfOk result (AgreesWithMisses self.now) }
+
+        // They are sixteen.
+        ensures few { number ≡ PENDING → IfOk result (λ bits. bits < 2 ^ most_functions) }
     {
         match number {
             PENDING => Ok(u64::from(self.pending)),
