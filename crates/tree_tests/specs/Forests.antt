@@ -1,12 +1,13 @@
 -- The trees of all functions over files with the same runs, in one memory and with one pool.
-use Rattle.std.specs.Prelude.{◌≡◌, ℕ, List, length}
+use Rattle.std.specs.Prelude.{◌≡◌, ℕ, ◌+◌, ◌*◌, List, length}
+use Rattle.nesc_base.specs.Memory.{node_size}
 use Rattle.nesc_base.specs.declared.runs.Run.{Run}
 use Rattle.nesc_requests.specs.Machine.{most_functions}
-use Rattle.host_memory.specs.Pool.{HasRoom, Pool}
-use Rattle.host_memory.specs.Words.{WordMemory}
+use Rattle.host_memory.specs.Pool.{HasRoom, Pool, all_free}
+use Rattle.host_memory.specs.Words.{WordMemory, zeros}
 use Rattle.tree_words.specs.Shown.{Layout}
 use Rattle.tree_pruner.specs.Reclaiming.{AreTrees}
-use Rattle.tree_pruner.specs.Roots.{Roots, root_of}
+use Rattle.tree_pruner.specs.Roots.{Roots, no_roots, root_of}
 use Rattle.tree_tests.specs.Planted.{Plot}
 
 pub record Woods : Type 0 where
@@ -15,6 +16,17 @@ pub record Woods : Type 0 where
   pub pool : Pool
   pub memory : WordMemory
   pub roots : Roots
+
+-- no function has a tree, and the memory has room for so many nodes
+abbrev pub bare_forest : List Run → ℕ → Woods
+bare_forest runs nodes =
+    record {
+      runs = runs;
+      nodes = nodes;
+      pool = all_free nodes;
+      memory = zeros (node_size * (nodes + 1));
+      roots = no_roots;
+    }
 
 -- The words show some part of the tree of each function, no two share a node, and no other node is taken. The memory
 -- has room for all nodes.

@@ -1,8 +1,10 @@
-ghost use Rattle.std.specs.Prelude.{◌<◌, ◌≤◌, MatchOption};
+ghost use Rattle.std.specs.Prelude.{◌≡◌, ◌<◌, ◌≤◌, IfOk, MatchOption};
 ghost use Rattle.nesc_base.specs.Files.{longest_file};
-ghost use Rattle.tree_pruner.specs.Roots.{IsFunction};
-ghost use Rattle.tree_tests.specs.Forests.{plot_of};
-ghost use Rattle.tree_tests.specs.Planted.{NeedsHere};
+ghost use Rattle.host_memory.specs.Pool.{free_of};
+ghost use Rattle.tree_pruner.specs.Reclaiming.{ReclaimsTrees};
+ghost use Rattle.tree_pruner.specs.Roots.{IsFunction, root_of};
+ghost use Rattle.tree_tests.specs.Forests.{bare_forest, plot_of};
+ghost use Rattle.tree_tests.specs.Planted.{NeedsHere, WalksHere};
 
 use crate::plain_runs::PlainRuns;
 use crate::planting::AREA;
@@ -38,7 +40,9 @@ impl Model for Forest {
 
 impl Forest {
     /// No function has a tree; a pool of so many nodes, and a memory with room for them.
-    pub fn new(alloc: Global, runs: PlainRuns, nodes: u16) -> Result<Forest, NoMemory> {
+    pub fn new(alloc: Global, runs: PlainRuns, nodes: u16) -> Result<Forest, NoMemory>
+        ensures { IfOk result (λ forest. forest ≡ bare_forest runs nodes) }
+    {
         let words = NODE_WORDS as u32 * (u32::from(nodes) + 1);
         Ok(Forest {
             runs,
@@ -50,13 +54,16 @@ impl Forest {
     }
 
     /// How many nodes are free.
-    pub fn free(&self) -> u32 {
+    pub fn free(&self) -> u32
+        ensures { result ≡ free_of self.now.pool }
+    {
         self.pool.free()
     }
 
     /// The root of a function's tree, 0 where it has none.
     pub fn root(&self, f: FnNo) -> u32
         requires { IsFunction f.0 }
+        ensures { result ≡ root_of self.now.roots f.0 }
     {
         self.roots.get(f)
     }
@@ -92,6 +99,10 @@ impl Forest {
     /// as many.
     pub fn reclaim(&mut self, f: FnNo, needed: u32) -> Option<u16>
         requires { IsFunction f.0 }
+        ensures { MatchOption result (self.old.nodes < needed)
+            (λ mask. ReclaimsTrees f.0 needed mask self.old.memory.words
+            (record { pool = self.old.pool; roots = self.old.roots })
+            (record { pool = self.new.pool; roots = self.new.roots })) }
     {
         if needed > u32::from(self.nodes) {
             return None;
@@ -113,6 +124,7 @@ impl Forest {
     /// Walks to block `v` in a function's tree.
     pub fn walk(&mut self, f: FnNo, v: u32) -> WalkEnd
         requires { IsFunction f.0 }
+        ensures { WalksHere v AREA result (plot_of self.old f.0) (plot_of self.new f.0) }
     {
         walk(&mut self.memory, self.roots.get(f), v, AREA)
     }

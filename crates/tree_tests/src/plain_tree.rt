@@ -15,6 +15,7 @@ pub struct PlainTree {
 }
 
 impl PlainTree {
+    /// No node stands.
     pub fn none(alloc: Global) -> PlainTree {
         PlainTree {
             nodes: Vec::new(alloc),
